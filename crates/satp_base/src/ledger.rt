@@ -1,0 +1,58 @@
+use crate::message::Terms;
+
+/// What is done to the entry of a session in a ledger.
+#[derive(Clone, Copy, Debug, PartialEq, Eq)]
+pub enum LedgerOp {
+    /// The originator's amount is set aside.
+    Lock,
+    /// What was locked is gone for good.
+    Burn,
+    /// An amount is made that nobody owns yet.
+    Mint,
+    /// What was minted becomes the beneficiary's.
+    Assign,
+    /// What was locked goes back, what was minted is gone, and nothing can be locked or minted any more.
+    Release,
+}
+
+/// How far the entry of a session has come in a ledger.
+#[derive(Clone, Copy, Debug, PartialEq, Eq)]
+pub enum Entry {
+    Absent,
+    Locked,
+    Burnt,
+    Minted,
+    Assigned,
+    Released,
+}
+
+/// What a ledger answers to an operation.
+#[derive(Clone, Copy, Debug, PartialEq, Eq)]
+pub enum Answer {
+    /// The entry is the operation's result.
+    Done,
+    /// The originator has less than the amount: `free` units.
+    NoFunds { free: u64 },
+    /// The ledger has no such asset.
+    UnknownAsset,
+    /// The amount would pass the asset's cap; `total` units are there now.
+    Capped { total: u64 },
+    /// The session has another entry already.
+    Taken { entry: Entry },
+}
+
+/// The entry of a session, with the terms that it keeps.
+#[derive(Clone, Copy, Debug, PartialEq, Eq)]
+pub struct LedgerEntry {
+    pub entry: Entry,
+    pub terms: Terms,
+}
+
+/// The kinds of ledger that a gateway may stand before.
+#[derive(Clone, Copy, Debug, PartialEq, Eq)]
+pub enum LedgerKind {
+    /// Free amounts by owner.
+    Accounts,
+    /// Unspent outputs.
+    Outputs,
+}

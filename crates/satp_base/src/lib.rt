@@ -1,0 +1,27 @@
+//! Values of the protocol, the traits of the devices, and the definitions that the contracts of all crates cite.
+#![tactic(auto)]
+
+mod amount;
+mod area;
+mod digits;
+mod fault;
+mod head;
+mod ledger;
+mod message;
+mod name;
+mod record;
+mod session;
+mod stream;
+mod text;
+
+pub use amount::Amount;
+pub use area::{Area, Event};
+pub use fault::{AmountFault, NameFault, SessionFault};
+pub use head::Head;
+pub use ledger::{Answer, Entry, LedgerEntry, LedgerKind, LedgerOp};
+pub use message::{Body, Kind, Link, Message, Part, Reason, Role, Terms};
+pub use name::Name;
+pub use record::{Cause, Next, Rec, TooLate, Way};
+pub use session::SessionId;
+pub use stream::{Sink, SinkFault, Source, SourceFault};
+pub use text::{Memory, Text, Texts};

@@ -1,18 +1,16 @@
 -- What is written for a value is read as that value, and as no other.
-use Rattle.std.proofs.Common.{◌≡◌, ℕ, zero, suc, ◌+◌, ◌-◌, ◌<◌, ◌≤◌, ◌^◌, ◌==◌, ◌&&◌, Bool, true, false, cond, not, List, [], ◌∷◌, ◌++◌, length, take, drop, get_or, decimal, nat_eq, nat_lt, Option, Some, None, Result, Ok, Err, MatchResult, option_map, refl, ap, subst, sym, ◌∙◌, arith, length-take, length-drop, length-append}
+use Rattle.std.proofs.Common.{◌≡◌, ℕ, ◌+◌, ◌-◌, ◌<◌, ◌≤◌, ◌^◌, ◌==◌, Bool, true, false, cond, List, [], ◌∷◌, ◌++◌, length, take, drop, get_or, decimal, Option, Some, None, Result, Ok, Err, MatchResult, refl, ap, subst, sym, ◌∙◌, arith, length-take, length-drop}
 use Rattle.std.specs.Prelude.{replicate, position, is_some}
 use Rattle.std.specs.List.{list_all, position_from}
-use Rattle.std.specs.Str.Parse.{digits_value, AllDigits, IsNumeral}
-use Rattle.std.proofs.lemmas.Bool.{and_parts, and_from, eqb-true, eqb-false, leb-true, ltb-false, le-ltb, le-leb, ne_eqb, and_right}
+use Rattle.std.specs.Str.Parse.{digits_value, AllDigits}
+use Rattle.std.proofs.lemmas.Bool.{and_parts, and_from, eqb-true, leb-true, le-ltb, le-leb, ne_eqb, and_right}
 use Rattle.std.proofs.lemmas.List.{take-append-drop}
 use Rattle.std.proofs.lemmas.Fmt.{decimal_is_IsNumeral, first_decimal}
 use Rattle.std.proofs.lemmas.Str.Parse.{digit_from_value}
 use Rattle.std.proofs.lemmas.Iterator.Adapters.{position_from-zero}
-use Rattle.std.proofs.Math.Seq.{take-append_seam, drop-append_seam, drop-append-add}
-use Rattle.satp_base.specs.Names.{is_name_byte, is_name, holds_name}
-use Rattle.satp_base.specs.Numbers.{is_digit, leads, within, is_number, first_other, greatest_number, greatest_amount}
-use Rattle.std.specs.Coded.{le_prop}
-use Rattle.satp_base.specs.declared.amount.Amount.{Amount}
+use Rattle.std.proofs.Math.Seq.{take-append_seam, drop-append-add}
+use Rattle.satp_base.specs.Names.{is_name_byte, is_name}
+use Rattle.satp_base.specs.Numbers.{is_digit, leads, within, is_number, first_other, greatest_number}
 use Rattle.satp_base.specs.Faults.{name_fault, session_fault, parts_fault}
 use Rattle.satp_base.specs.Values.{name_text, session_text, IsReadAs}
 use Rattle.satp_base.specs.Keys.{same_name, same_session}
@@ -139,13 +137,3 @@ session_exact text (Ok a) h s e =
     stopped : (m n : ℕ) → Some m ≡ Some n → m ≡ n
     stopped m n p = cc
 session_exact text (Err f) h s e = let none = sym h ∙ ap session_fault e ∙ no_session_fault s in absurd cc
-
--- ---- amounts
-
-pub same_amount : (a b : Amount) → a.number ≡ b.number → a ≡ b
-same_amount a b e = subst (λ (n : ℕ). (low : 1 ≤ n) (high : n ≤ greatest_amount) → a ≡ record { number = n; low = low; high = high }) e first b.low b.high
-  where
-    first : (low : 1 ≤ a.number) (high : a.number ≤ greatest_amount) → a ≡ record { number = a.number; low = low; high = high }
-    first low high =
-        ap (λ (x : 1 ≤ a.number). record { number = a.number; low = x; high = a.high }) (le_prop a.low low)
-        ∙ ap (λ (x : a.number ≤ greatest_amount). record { number = a.number; low = low; high = x }) (le_prop a.high high)

@@ -2,6 +2,7 @@ pub mod Names
 pub mod Numbers
 pub mod Faults
 pub mod Keys
+pub mod Founding
 pub mod Ledgers
 pub mod Values
 pub mod Canonical

@@ -1,4 +1,6 @@
+use crate::genesis::Genesis;
 use crate::message::Terms;
+use crate::session::SessionId;
 
 /// What is done to the entry of a session in a ledger.
 #[derive(Clone, Copy, Debug, PartialEq, Eq)]
@@ -55,4 +57,24 @@ pub enum LedgerKind {
     Accounts,
     /// Unspent outputs.
     Outputs,
+}
+
+/// A call on the ledger of a site, as the site tells it.
+#[derive(Drop)]
+pub enum LedgerCall {
+    /// The ledger was to be set up anew.
+    Found {
+        kind: LedgerKind,
+        genesis: Genesis,
+    },
+    /// The ledger was to be opened.
+    Raise,
+    Act {
+        op: LedgerOp,
+        session: SessionId,
+        terms: Terms,
+    },
+    Look {
+        session: SessionId,
+    },
 }

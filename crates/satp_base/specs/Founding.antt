@@ -1,0 +1,55 @@
+-- What a ledger is founded with: its assets and first holdings, in order.
+use Rattle.std.specs.Prelude.{◌≡◌, ℕ, ◌≤◌, List}
+use Rattle.std.proofs.Common.{subst, ap, ◌∙◌}
+use Rattle.std.specs.Coded.{Coded, coded_list, coded_ℕ, coded×, le_prop}
+use Rattle.satp_base.specs.Keys.{coded_name}
+use Rattle.satp_base.specs.Numbers.{greatest_amount}
+use Rattle.satp_base.specs.declared.amount.Amount.{Amount}
+use Rattle.satp_base.specs.declared.name.Name.{Name}
+use Rattle.satp_base.specs.declared.genesis.Asset.{Asset}
+use Rattle.satp_base.specs.declared.genesis.Hold.{Hold}
+
+pub record Founding : Type 0 where
+  pub assets : List Asset
+  pub holds : List Hold
+
+abbrev AmountIs : Amount → ℕ → Type 0
+AmountIs a number = (low : 1 ≤ number) (high : number ≤ greatest_amount) → a ≡ record { number = number; low = low; high = high }
+
+amount_is : (a : Amount) → AmountIs a a.number
+amount_is a low high =
+    ap (λ (x : 1 ≤ a.number). record { number = a.number; low = x; high = a.high }) (le_prop a.low low)
+    ∙ ap (λ (x : a.number ≤ greatest_amount). record { number = a.number; low = low; high = x }) (le_prop a.high high)
+
+pub same_amount : (a b : Amount) → a.number ≡ b.number → a ≡ b
+same_amount a b e = subst (AmountIs a) e (amount_is a) b.low b.high
+
+unfoldable pub coded_amount : Coded Amount
+coded_amount = record { code = λ a. coded_ℕ.code a.number; inj = λ a b e. same_amount a b (coded_ℕ.inj a.number b.number e) }
+
+abbrev asset_pair : Coded (Name × Amount)
+asset_pair = coded× coded_name coded_amount
+
+unfoldable pub coded_asset : Coded Asset
+coded_asset = record {
+  code = λ a. asset_pair.code (a.name, a.cap);
+  inj = λ a b e. let p = asset_pair.inj (a.name, a.cap) (b.name, b.cap) e in λ i. record { name = (p i).0; cap = (p i).1 };
+}
+
+abbrev hold_triple : Coded (Name × (Name × Amount))
+hold_triple = coded× coded_name (coded× coded_name coded_amount)
+
+unfoldable pub coded_hold : Coded Hold
+coded_hold = record {
+  code = λ h. hold_triple.code (h.asset, (h.owner, h.amount));
+  inj = λ a b e. let p = hold_triple.inj (a.asset, (a.owner, a.amount)) (b.asset, (b.owner, b.amount)) e in λ i. record { asset = (p i).0; owner = (p i).1.0; amount = (p i).1.1 };
+}
+
+abbrev founding_pair : Coded (List Asset × List Hold)
+founding_pair = coded× (coded_list coded_asset) (coded_list coded_hold)
+
+unfoldable pub coded_founding : Coded Founding
+coded_founding = record {
+  code = λ f. founding_pair.code (f.assets, f.holds);
+  inj = λ a b e. let p = founding_pair.inj (a.assets, a.holds) (b.assets, b.holds) e in λ i. record { assets = (p i).0; holds = (p i).1 };
+}

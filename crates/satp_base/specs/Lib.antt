@@ -4,6 +4,9 @@ pub mod Faults
 pub mod Keys
 pub mod Founding
 pub mod Ledgers
+pub mod Money
+pub mod LedgerRule
+pub mod LedgerAt
 pub mod Values
 pub mod Canonical
 pub mod Streams

@@ -1,82 +1,57 @@
 -- What is written for a value is read as that value, and as no other.
-use Rattle.std.proofs.Common.{◌≡◌, ℕ, ◌+◌, ◌-◌, ◌<◌, ◌≤◌, ◌^◌, ◌==◌, Bool, true, false, cond, List, [], ◌∷◌, ◌++◌, length, take, drop, get_or, decimal, Option, Some, None, Result, Ok, Err, MatchResult, refl, ap, subst, sym, ◌∙◌, arith, length-take, length-drop}
-use Rattle.std.specs.Prelude.{replicate, position, is_some}
+use Rattle.std.proofs.Common.{◌≡◌, ℕ, ◌+◌, ◌<◌, ◌^◌, ◌==◌, Bool, true, false, cond, List, [], ◌∷◌, ◌++◌, length, take, drop, get_or, decimal, Option, Some, None, Result, Ok, Err, MatchResult, refl, ap, subst, sym, ◌∙◌, arith}
+use Rattle.std.specs.Prelude.{position, is_some}
 use Rattle.std.specs.List.{list_all, position_from}
 use Rattle.std.specs.Str.Parse.{digits_value, AllDigits}
-use Rattle.std.proofs.lemmas.Bool.{and_parts, and_from, eqb-true, leb-true, le-ltb, le-leb, ne_eqb, and_right}
-use Rattle.std.proofs.lemmas.List.{take-append-drop}
+use Rattle.std.proofs.lemmas.Bool.{and_parts, and_from, le-leb, ne_eqb, and_right}
 use Rattle.std.proofs.lemmas.Fmt.{decimal_is_IsNumeral, first_decimal}
 use Rattle.std.proofs.lemmas.Str.Parse.{digit_from_value}
 use Rattle.std.proofs.lemmas.Iterator.Adapters.{position_from-zero}
 use Rattle.std.proofs.Math.Seq.{take-append_seam, drop-append-add}
-use Rattle.satp_base.specs.Names.{is_name_byte, is_name}
+use Rattle.satp_base.specs.Names.{is_name_byte, is_address_byte}
 use Rattle.satp_base.specs.Numbers.{is_digit, leads, within, is_number, first_other, greatest_number}
-use Rattle.satp_base.specs.Faults.{name_fault, session_fault, parts_fault}
-use Rattle.satp_base.specs.Values.{name_text, session_text, IsReadAs}
-use Rattle.satp_base.specs.Keys.{same_name, same_session}
+use Rattle.satp_base.specs.Faults.{name_fault, address_fault, session_fault, parts_fault}
+use Rattle.satp_base.specs.Values.{name_text, address_text, session_text, IsReadAs}
+use Rattle.satp_base.specs.Keys.{same_name, same_address, same_session}
 use Rattle.satp_base.specs.declared.name.Name.{Name}
+use Rattle.satp_base.specs.declared.address.Address.{Address}
 use Rattle.satp_base.specs.declared.session.SessionId.{SessionId}
 use Rattle.satp_base.specs.declared.fault.NameFault.{NameFault}
 use Rattle.satp_base.specs.declared.fault.SessionFault.{SessionFault}
 use Rattle.satp_base.proofs.ReadLemmas.{other_none}
+use Rattle.satp_base.proofs.Forms.{Holds, held, form_parts, no_form_fault, same_held}
 
 -- ---- names
 
-pub record Held (n : Name) : Type 0 where
-  pub long : length n.bytes ≡ 32
-  pub short : n.count ≤ 32
-  pub name : is_name (name_text n) ≡ true
-  pub zeros : list_all (λ b. b == 0) (drop n.count n.bytes) ≡ true
-
-held : (n : Name) → Held n
-held n =
-    let p = and_parts _ _ n.valid in
-    let q = and_parts _ _ p.0 in
-    let r = and_parts _ _ q.0 in
-    record { long = eqb-true _ _ r.0; short = leb-true _ _ r.1; name = q.1; zeros = p.1 }
-
-pub record Named (text : List ℕ) : Type 0 where
-  pub some : 1 ≤ length text
-  pub short : length text ≤ 32
-  pub bytes : list_all is_name_byte text ≡ true
-
-pub named : (n : Name) → Named (name_text n)
-named n =
-    let p = and_parts _ _ (held n).name in
-    let q = and_parts _ _ p.0 in
-    record { some = leb-true _ _ q.0; short = leb-true _ _ q.1; bytes = p.1 }
+pub name_holds : (n : Name) → Holds 32 is_name_byte n.count n.bytes
+name_holds n = held 32 is_name_byte n.count n.bytes n.valid
 
 pub name_bytes : (n : Name) → list_all is_name_byte (name_text n) ≡ true
-name_bytes n = (named n).bytes
+name_bytes n = (form_parts 32 is_name_byte (name_text n) (name_holds n).form).bytes
 
 pub no_name_fault : (n : Name) → name_fault (name_text n) ≡ None
-no_name_fault n =
-    let h = named n in
-    let some : (length (name_text n) == 0) ≡ false = ne_eqb _ _ (λ e. omega (arith, h.some)) in
-    rw (some, le-ltb 32 (length (name_text n)) h.short, other_none is_name_byte (name_text n) h.bytes)
-
-all_zeros : (xs : List ℕ) → list_all (λ b. b == 0) xs ≡ true → xs ≡ replicate (length xs) 0
-all_zeros [] e = refl
-all_zeros (x ∷ xs) e = let p = and_parts _ _ e in rw (eqb-true x 0 p.0) (ap (λ ys. 0 ∷ ys) (all_zeros xs p.1))
-
-text_length : (n : Name) → length (name_text n) ≡ n.count
-text_length n = let h = held n in omega (arith, h.long, h.short, length-take n.count n.bytes)
-
-fields : (n : Name) → n.bytes ≡ name_text n ++ replicate (32 - n.count) 0
-fields n =
-    let h = held n in
-    let rest : length (drop n.count n.bytes) ≡ 32 - n.count = omega (arith, h.long, length-drop {A = ℕ} n.count n.bytes) in
-    sym (take-append-drop n.count n.bytes) ∙ ap (λ xs. name_text n ++ xs) (all_zeros _ h.zeros ∙ ap (λ k. replicate k 0) rest)
+no_name_fault n = no_form_fault 32 is_name_byte (name_text n) (name_holds n).form
 
 pub same_text : (a b : Name) → name_text a ≡ name_text b → a ≡ b
-same_text a b e =
-    let count : a.count ≡ b.count = sym (text_length a) ∙ ap length e ∙ text_length b in
-    same_name a b (fields a ∙ ap (λ xs. xs ++ replicate (32 - a.count) 0) e ∙ ap (λ k. name_text b ++ replicate (32 - k) 0) count ∙ sym (fields b)) count
+same_text a b e = let p = same_held 32 is_name_byte a.count a.bytes b.count b.bytes (name_holds a) (name_holds b) e in same_name a b p.0 p.1
 
 pub name_exact : (text : List ℕ) (r : Result Name NameFault) → MatchResult r (λ n. (name_fault text ≡ None) × (name_text n ≡ text)) (λ f. name_fault text ≡ Some f)
     → (n : Name) → text ≡ name_text n → r ≡ Ok n
 name_exact text (Ok a) h n e = ap Ok (same_text a n (h.1 ∙ e))
 name_exact text (Err f) h n e = let none = sym h ∙ ap name_fault e ∙ no_name_fault n in absurd cc
+
+-- ---- addresses
+
+address_holds : (a : Address) → Holds 64 is_address_byte a.count a.bytes
+address_holds a = held 64 is_address_byte a.count a.bytes a.valid
+
+pub same_address_text : (a b : Address) → address_text a ≡ address_text b → a ≡ b
+same_address_text a b e = let p = same_held 64 is_address_byte a.count a.bytes b.count b.bytes (address_holds a) (address_holds b) e in same_address a b p.0 p.1
+
+pub address_exact : (text : List ℕ) (r : Result Address NameFault) → MatchResult r (λ a. (address_fault text ≡ None) × (address_text a ≡ text)) (λ f. address_fault text ≡ Some f)
+    → (a : Address) → text ≡ address_text a → r ≡ Ok a
+address_exact text (Ok a) h b e = ap Ok (same_address_text a b (h.1 ∙ e))
+address_exact text (Err f) h b e = let none = sym h ∙ ap address_fault e ∙ no_form_fault 64 is_address_byte (address_text b) (address_holds b).form in absurd cc
 
 -- ---- sessions
 

@@ -1,10 +1,10 @@
 -- Names and sessions under `==` and as keys of a map.
-use Rattle.std.proofs.Common.{◌≡◌, ℕ, ◌&&◌, List, [], ◌∷◌, Bool, true, cond, nat_eq, Option, Some, None, IsTrue, ◌↔◌, refl, ap, ap₂, subst, sym, ◌∙◌}
+use Rattle.std.proofs.Common.{◌≡◌, ℕ, ◌&&◌, List, [], ◌∷◌, true, cond, nat_eq, Option, Some, refl, ap, sym, ◌∙◌}
 use Rattle.std.specs.Ordering.{nat_cmp}
 use Rattle.std.specs.Cmp.{IsTotalOrder, eq_by_cmp_equiv}
 use Rattle.std.specs.Cmp.Lexicographic.{same_text, slice_cmp}
 use lib.Pointwise.{pointwise}
-use Rattle.std.specs.FinMap.{FinMap, from_entries, insert, get, get-from_entries, get-insert, same_map}
+use Rattle.std.specs.FinMap.{from_entries, insert, get, get-from_entries, get-insert, same_map}
 use Rattle.std.specs.FinMap.Entries.{find}
 use Rattle.std.specs.BTreeMap.{is_at}
 use Rattle.std.specs.Map.{lookup}

@@ -1,10 +1,12 @@
 //! Values of the protocol, the traits of the devices, and the definitions that the contracts of all crates cite.
 #![tactic(auto)]
 
+mod address;
 mod amount;
 mod area;
 mod digits;
 mod fault;
+mod form;
 mod genesis;
 mod head;
 mod ledger;
@@ -15,6 +17,7 @@ mod session;
 mod stream;
 mod text;
 
+pub use address::Address;
 pub use amount::Amount;
 pub use area::{Area, Event};
 pub use fault::{AmountFault, NameFault, SessionFault};

@@ -10,3 +10,8 @@ pub mod LedgerAt
 pub mod Values
 pub mod Canonical
 pub mod Streams
+pub mod Trail
+pub mod Calls
+pub mod Format
+pub mod Segments
+pub mod Laws

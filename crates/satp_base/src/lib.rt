@@ -4,6 +4,7 @@
 mod address;
 mod amount;
 mod area;
+mod device;
 mod digits;
 mod fault;
 mod form;
@@ -20,6 +21,7 @@ mod text;
 pub use address::Address;
 pub use amount::Amount;
 pub use area::{Area, Event};
+pub use device::{Device, Disk, DiskFault};
 pub use fault::{AmountFault, NameFault, SessionFault};
 pub use genesis::{AddFault, Asset, Genesis, Hold};
 pub use head::Head;

@@ -15,3 +15,7 @@ pub mod Calls
 pub mod Format
 pub mod Segments
 pub mod Laws
+pub mod Tales
+pub mod TaleForm
+pub mod Views
+pub mod Roles

@@ -16,7 +16,9 @@ mod name;
 mod record;
 mod session;
 mod stream;
+mod tale;
 mod text;
+mod view;
 
 pub use address::Address;
 pub use amount::Amount;
@@ -31,4 +33,6 @@ pub use name::Name;
 pub use record::{Cause, Next, Rec, TooLate, Way};
 pub use session::SessionId;
 pub use stream::{Sink, SinkFault, Source, SourceFault};
+pub use tale::Tale;
 pub use text::{Memory, Text, Texts};
+pub use view::{Done, View};

@@ -20,6 +20,7 @@ use Rattle.satp_base.specs.declared.record.Next.{Next}
 use Rattle.satp_base.specs.declared.record.Next.TheVariants.{Append, Act, Wait, Ended}
 use Rattle.satp_base.specs.declared.view.View.{View}
 use Rattle.satp_base.specs.Tales.{IsTale, has, last_is, last_by, is_whole, maker, other}
+use Rattle.satp_base.specs.Views.{push}
 
 abbrev pub both : Bool → Bool → Bool
 both true b = b
@@ -168,3 +169,8 @@ pub data RoleRule (role : Role) (v : View) (r : Rec) : Type 0 where
   Due : next_of role v ≡ Append r → RoleRule role v r
   Answered : (op : LedgerOp) (answer : Answer) → next_of role v ≡ Act op → After op answer r → RoleRule role v r
   Free : Other role v r → RoleRule role v r
+
+-- each of the records may come behind those before it
+abbrev pub AreAllowed : Role → View → List Rec → Type 0
+AreAllowed role v [] = Unit {0}
+AreAllowed role v (r ∷ rs) = RoleRule role v r × AreAllowed role (push v r) rs

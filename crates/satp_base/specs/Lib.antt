@@ -19,3 +19,5 @@ pub mod Tales
 pub mod TaleForm
 pub mod Views
 pub mod Roles
+pub mod Signatures
+pub mod Chains

@@ -18,6 +18,7 @@ mod session;
 mod stream;
 mod tale;
 mod text;
+mod text_laws;
 mod view;
 
 pub use address::Address;
@@ -35,4 +36,5 @@ pub use session::SessionId;
 pub use stream::{Sink, SinkFault, Source, SourceFault};
 pub use tale::Tale;
 pub use text::{Memory, Text, Texts};
+pub use text_laws::{law_next_text, law_signatures};
 pub use view::{Done, View};

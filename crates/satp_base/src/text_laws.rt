@@ -1,0 +1,14 @@
+//! Theorems on the texts that are signed, and on those of a chain. They stand over definitions alone and make no call.
+
+ghost use Rattle.satp_base.specs.Signatures.{OnePayload};
+ghost use Rattle.satp_base.specs.Chains.{AppendsText};
+
+/// A compact JWS shows its header and its payload, under whatever keys.
+pub fn law_signatures()
+    ensures { OnePayload }
+{}
+
+/// One more part puts one more text behind those of the parts before it.
+pub fn law_next_text()
+    ensures { AppendsText }
+{}

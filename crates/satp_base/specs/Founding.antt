@@ -1,8 +1,10 @@
 -- What a ledger is founded with: its assets and first holdings, in order.
-use Rattle.std.specs.Prelude.{◌≡◌, ℕ, ◌≤◌, List}
+use Rattle.std.specs.Prelude.{◌≡◌, ℕ, ◌≤◌, Bool, List, if◌then◌else◌, Option, find, option_map}
+use Rattle.std.specs.List.{sum_by}
+use Rattle.std.specs.Ordering.{eq_by_cmp}
 use Rattle.std.proofs.Common.{subst, ap, ◌∙◌}
 use Rattle.std.specs.Coded.{Coded, coded_list, coded_ℕ, coded×, le_prop}
-use Rattle.satp_base.specs.Keys.{coded_name}
+use Rattle.satp_base.specs.Keys.{coded_name, name_cmp}
 use Rattle.satp_base.specs.Numbers.{greatest_amount}
 use Rattle.satp_base.specs.declared.amount.Amount.{Amount}
 use Rattle.satp_base.specs.declared.name.Name.{Name}
@@ -12,6 +14,29 @@ use Rattle.satp_base.specs.declared.genesis.Hold.{Hold}
 pub record Founding : Type 0 where
   pub assets : List Asset
   pub holds : List Hold
+
+abbrev pub most_assets : ℕ
+most_assets = 16
+
+abbrev pub most_holds : ℕ
+most_holds = 256
+
+abbrev pub equal_names : Name → Name → Bool
+equal_names a b = eq_by_cmp name_cmp a b
+
+abbrev pub counted : Bool → ℕ → ℕ
+counted b n = if b then n else 0
+
+abbrev pub amount_number : Amount → ℕ
+amount_number a = a.number
+
+-- the cap of the first asset of a name
+abbrev pub cap_among : List Asset → Name → Option ℕ
+cap_among assets asset = option_map (λ (a : Asset). a.cap.number) (find (λ (a : Asset). equal_names asset a.name) assets)
+
+-- the sum of an asset's holdings
+abbrev pub held_among : List Hold → Name → ℕ
+held_among holds asset = sum_by (λ (h : Hold). counted (equal_names asset h.asset) h.amount.number) holds
 
 abbrev AmountIs : Amount → ℕ → Type 0
 AmountIs a number = (low : 1 ≤ number) (high : number ≤ greatest_amount) → a ≡ record { number = number; low = low; high = high }

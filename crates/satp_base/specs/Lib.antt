@@ -3,6 +3,7 @@ pub mod Numbers
 pub mod Faults
 pub mod Keys
 pub mod Founding
+pub mod Genesis
 pub mod Ledgers
 pub mod Money
 pub mod LedgerRule

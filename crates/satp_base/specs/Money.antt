@@ -1,12 +1,9 @@
 -- What each owner has of an asset, and how much there is of it: sums over the first holdings and the entries of sessions.
-use Rattle.std.specs.Prelude.{ℕ, ◌+◌, ◌-◌, ◌&&◌, Bool, true, false, if◌then◌else◌, Option, find, option_map}
+use Rattle.std.specs.Prelude.{ℕ, ◌+◌, ◌-◌, ◌&&◌, Bool, true, false, Option}
 use Rattle.std.specs.List.{sum_by}
 use Rattle.std.specs.FinMap as map
-use Rattle.std.specs.Ordering.{eq_by_cmp}
-use Rattle.satp_base.specs.Founding.{Founding}
-use Rattle.satp_base.specs.Keys.{name_cmp}
+use Rattle.satp_base.specs.Founding.{Founding, cap_among, counted, equal_names, held_among}
 use Rattle.satp_base.specs.Ledgers.{Entries}
-use Rattle.satp_base.specs.declared.genesis.Asset.{Asset}
 use Rattle.satp_base.specs.declared.ledger.Entry.{Entry}
 use Rattle.satp_base.specs.declared.ledger.Entry.TheVariants.{Absent, Locked, Burnt, Minted, Assigned, Released}
 use Rattle.satp_base.specs.declared.ledger.LedgerEntry.{LedgerEntry}
@@ -16,12 +13,6 @@ use Rattle.satp_base.specs.declared.name.Name.{Name}
 pub record Book : Type 0 where
   pub genesis : Founding
   pub entries : Entries
-
-abbrev pub equal_names : Name → Name → Bool
-equal_names a b = eq_by_cmp name_cmp a b
-
-abbrev pub counted : Bool → ℕ → ℕ
-counted b n = if b then n else 0
 
 abbrev pub sum_entries : (LedgerEntry → ℕ) → Entries → ℕ
 sum_entries f entries = sum_by (λ e. f e.1) (map.entries entries)
@@ -63,7 +54,7 @@ free_of b asset owner = (held b.genesis asset owner + sum_entries (given asset o
 -- ---- of all owners
 
 abbrev pub held_of_all : Founding → Name → ℕ
-held_of_all g asset = sum_by (λ h. counted (equal_names asset h.asset) h.amount.number) g.holds
+held_of_all g asset = held_among g.holds asset
 
 abbrev pub taken_of_all : Name → LedgerEntry → ℕ
 taken_of_all asset k = counted (is_taken k.entry && equal_names asset k.terms.asset) k.terms.amount.number
@@ -83,4 +74,4 @@ total_of b asset = free_sum_of b asset + sum_entries (pledged asset) b.entries
 
 -- the most that there may be, of an asset that the ledger has
 abbrev pub cap_of : Founding → Name → Option ℕ
-cap_of g asset = option_map (λ (a : Asset). a.cap.number) (find (λ (a : Asset). equal_names asset a.name) g.assets)
+cap_of g asset = cap_among g.assets asset

@@ -13,6 +13,8 @@ pub mod Canonical
 pub mod Streams
 pub mod Trail
 pub mod Calls
+pub mod Acts
+pub mod Soundness
 pub mod Format
 pub mod Segments
 pub mod Laws

@@ -43,6 +43,24 @@ pub enum Answer {
     Taken { entry: Entry },
 }
 
+/// Why a ledger doesn't answer an operation or a look.
+#[derive(Clone, Copy, Debug, PartialEq, Eq)]
+pub enum ActFault {
+    /// The ledger failed.
+    Failed,
+    /// The operation may not be asked of this entry.
+    OutOfOrder { entry: Entry },
+}
+
+/// Why a ledger in memory doesn't answer an operation.
+#[derive(Clone, Copy, Debug, PartialEq, Eq)]
+pub enum CoreFault {
+    /// The operation may not be asked of this entry.
+    OutOfOrder { entry: Entry },
+    /// No memory was found.
+    Memory,
+}
+
 /// The entry of a session, with the terms that it keeps.
 #[derive(Clone, Copy, Debug, PartialEq, Eq)]
 pub struct LedgerEntry {

@@ -15,6 +15,7 @@ mod message;
 mod name;
 mod record;
 mod session;
+mod site;
 mod stream;
 mod tale;
 mod text;
@@ -28,11 +29,14 @@ pub use device::{Device, Disk, DiskFault};
 pub use fault::{AmountFault, NameFault, SessionFault};
 pub use genesis::{AddFault, Asset, Genesis, Hold};
 pub use head::Head;
-pub use ledger::{Answer, Entry, LedgerCall, LedgerEntry, LedgerKind, LedgerOp};
+pub use ledger::{
+    ActFault, Answer, CoreFault, Entry, LedgerCall, LedgerEntry, LedgerKind, LedgerOp,
+};
 pub use message::{Body, Kind, Link, Message, Part, Reason, Role, Terms};
 pub use name::Name;
 pub use record::{Cause, Next, Rec, TooLate, Way};
 pub use session::SessionId;
+pub use site::{Ledger, LedgerCore, Site, SiteFault};
 pub use stream::{Sink, SinkFault, Source, SourceFault};
 pub use tale::Tale;
 pub use text::{Memory, Text, Texts};

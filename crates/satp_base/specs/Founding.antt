@@ -1,11 +1,9 @@
 -- What a ledger is founded with: its assets and first holdings, in order.
-use Rattle.std.specs.Prelude.{◌≡◌, ℕ, ◌≤◌, Bool, List, if◌then◌else◌, Option, find, option_map}
+use Rattle.std.specs.Prelude.{ℕ, Bool, List, if◌then◌else◌, Option, find, option_map}
 use Rattle.std.specs.List.{sum_by}
 use Rattle.std.specs.Ordering.{eq_by_cmp}
-use Rattle.std.proofs.Common.{subst, ap, ◌∙◌}
-use Rattle.std.specs.Coded.{Coded, coded_list, coded_ℕ, coded×, le_prop}
-use Rattle.satp_base.specs.Keys.{coded_name, name_cmp}
-use Rattle.satp_base.specs.Numbers.{greatest_amount}
+use Rattle.std.specs.Coded.{Coded, coded_list, coded×}
+use Rattle.satp_base.specs.Keys.{coded_name, coded_amount, name_cmp}
 use Rattle.satp_base.specs.declared.amount.Amount.{Amount}
 use Rattle.satp_base.specs.declared.name.Name.{Name}
 use Rattle.satp_base.specs.declared.genesis.Asset.{Asset}
@@ -37,20 +35,6 @@ cap_among assets asset = option_map (λ (a : Asset). a.cap.number) (find (λ (a 
 -- the sum of an asset's holdings
 abbrev pub held_among : List Hold → Name → ℕ
 held_among holds asset = sum_by (λ (h : Hold). counted (equal_names asset h.asset) h.amount.number) holds
-
-abbrev AmountIs : Amount → ℕ → Type 0
-AmountIs a number = (low : 1 ≤ number) (high : number ≤ greatest_amount) → a ≡ record { number = number; low = low; high = high }
-
-amount_is : (a : Amount) → AmountIs a a.number
-amount_is a low high =
-    ap (λ (x : 1 ≤ a.number). record { number = a.number; low = x; high = a.high }) (le_prop a.low low)
-    ∙ ap (λ (x : a.number ≤ greatest_amount). record { number = a.number; low = low; high = x }) (le_prop a.high high)
-
-pub same_amount : (a b : Amount) → a.number ≡ b.number → a ≡ b
-same_amount a b e = subst (AmountIs a) e (amount_is a) b.low b.high
-
-unfoldable pub coded_amount : Coded Amount
-coded_amount = record { code = λ a. coded_ℕ.code a.number; inj = λ a b e. same_amount a b (coded_ℕ.inj a.number b.number e) }
 
 abbrev asset_pair : Coded (Name × Amount)
 asset_pair = coded× coded_name coded_amount

@@ -26,6 +26,7 @@ pub use address::Address;
 pub use amount::Amount;
 pub use area::{Area, Event};
 pub use device::{Device, Disk, DiskFault};
+pub use digits::read_number;
 pub use fault::{AmountFault, NameFault, SessionFault};
 pub use genesis::{AddFault, Asset, Genesis, Hold};
 pub use head::Head;

@@ -1,29 +1,41 @@
-ghost use Rattle.std.specs.Prelude.{◌≡◌, ℕ, ◌≤◌, ◌↔◌, IsTrue, if◌then◌else◌, Some, None, IfSome, length, position, ◌==◌, ◌<◌};
-ghost use Rattle.std.specs.Str.Parse.{digits_value};
-ghost use Rattle.satp_base.specs.Numbers.{greatest_number, is_number};
+ghost use Rattle.std.specs.Prelude.{◌≡◌, ℕ, ◌≤◌, IfSome, length, position, ◌==◌, ◌<◌};
+ghost use Rattle.satp_base.specs.Numbers.{greatest_number};
 
-use crate::digits::{first_other, value_within};
+use crate::digits::read_number;
 use crate::fault::SessionFault;
 use crate::name::Name;
 
-/// A session, written `<gateway>.<number>`.
+/// A session: the name of the gateway that opened it, and the number that it gave it, from 1 to
+/// 4,294,967,295. It is written `<gateway>.<number>`, as in `alpha.1`.
+///
+/// Sessions are ordered by gateway, and then by number.
 #[derive(Clone, Copy, Debug, PartialEq, Eq, PartialOrd, Ord)]
 pub struct SessionId {
+    /// The gateway that opened the session, on the origin's side.
     pub gateway: Name,
+    /// The number among the sessions of that gateway.
     pub number: u32,
     pub ghost low: { 1 ≤ number },
     pub ghost high: { number ≤ greatest_number },
 }
 
 impl SessionId {
-    ghost use Rattle.std.specs.Prelude.{◌≡◌, Some, None, MatchResult};
+    ghost use Rattle.std.specs.Prelude.{◌≡◌, Ok, Some, None, IsOk, MatchResult, ◌↔◌};
     ghost use Rattle.satp_base.specs.Faults.{session_fault};
-    ghost use Rattle.satp_base.specs.Values.{IsReadAs};
+    ghost use Rattle.satp_base.specs.Values.{session_text, IsSessionText};
+    ghost use Rattle.satp_base.specs.declared.session.SessionId.{SessionId};
 
+    /// Reads a session, the whole text being its gateway, a full stop and its number in decimal, without
+    /// sign or leading zero.
+    ///
+    /// `NoStop` comes where no full stop is, `Name` with the fault of what stands before the first full
+    /// stop, and `Number` where what stands behind it is no number from 1 to 4,294,967,295.
     pub fn read(text: &[u8]) -> Result<SessionId, SessionFault>
-        ensures { MatchResult result
-            (λ session. (session_fault text.now ≡ None) × IsReadAs text.now session)
+        ensures form { IsOk result ↔ IsSessionText text.now }
+        ensures read { MatchResult result
+            (λ session. (session_fault text.now ≡ None) × (session_text session ≡ text.now))
             (λ fault. session_fault text.now ≡ Some fault) }
+        ensures complete { (session : SessionId) → text.now ≡ session_text session → result ≡ Ok session }
     {
         let Some(stop) = first_stop(text) else {
             return Err(SessionFault::NoStop);
@@ -32,7 +44,7 @@ impl SessionId {
             Ok(gateway) => gateway,
             Err(fault) => return Err(SessionFault::Name { fault }),
         };
-        match number(&text[stop + 1..]) {
+        match read_number(&text[stop + 1..]) {
             Some(number) => Ok(SessionId { gateway, number }),
             None => Err(SessionFault::Number),
         }
@@ -45,16 +57,4 @@ fn first_stop(text: &[u8]) -> Option<usize>
     ensures within { IfSome result (λ stop. stop < length text.now) }
 {
     text.iter().position(|byte| *byte == b'.')
-}
-
-/// A number from 1 to 4,294,967,295.
-fn number(text: &[u8]) -> Option<u32>
-    ensures low { IfSome result (λ number. (1 ≤ number) × (number ≤ greatest_number)) }
-    ensures value { result ≡ (if is_number text.now then Some (digits_value 10 text.now) else None) }
-{
-    if text.is_empty() || first_other(text).is_some() || (text.len() > 1 && text[0] == b'0') {
-        return None;
-    }
-    let number = value_within(text, u64::from(u32::MAX))? as u32;
-    if number == 0 { None } else { Some(number) }
 }

@@ -24,3 +24,4 @@ pub mod Views
 pub mod Roles
 pub mod Signatures
 pub mod Chains
+pub mod Lines

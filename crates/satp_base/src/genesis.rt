@@ -3,6 +3,7 @@ ghost use Rattle.satp_base.specs.Founding.{amount_number, cap_among, equal_names
 
 use crate::amount::Amount;
 use crate::ledger::{LedgerKind, LedgerOp};
+use crate::lines::AddFault;
 use crate::name::Name;
 use std::alloc::Global;
 use std::marker::Model;
@@ -21,15 +22,6 @@ pub struct Hold {
     pub asset: Name,
     pub owner: Name,
     pub amount: Amount,
-}
-
-/// Why an asset or a holding isn't added.
-#[derive(Clone, Copy, Debug, PartialEq, Eq)]
-pub enum AddFault {
-    /// It may not stand behind what is there.
-    Refused,
-    /// No memory was found.
-    Memory,
 }
 
 /// The assets and first holdings of a ledger, in order.

@@ -11,6 +11,7 @@ mod form;
 mod genesis;
 mod head;
 mod ledger;
+mod lines;
 mod message;
 mod name;
 mod record;
@@ -28,11 +29,12 @@ pub use area::{Area, Event};
 pub use device::{Device, Disk, DiskFault};
 pub use digits::read_number;
 pub use fault::{AmountFault, NameFault, SessionFault};
-pub use genesis::{AddFault, Asset, Genesis, Hold};
+pub use genesis::{Asset, Genesis, Hold};
 pub use head::Head;
 pub use ledger::{
     ActFault, Answer, CoreFault, Entry, LedgerCall, LedgerEntry, LedgerKind, LedgerOp,
 };
+pub use lines::{AddFault, LineReader, LinesFault, read_lines};
 pub use message::{Body, Kind, Link, Message, Part, Reason, Role, Terms};
 pub use name::Name;
 pub use record::{Cause, Next, Rec, TooLate, Way};

@@ -1,5 +1,5 @@
 -- What the tables of both roles give at all, and what the rule allows, record by record.
-use Rattle.std.proofs.Common.{◌≡◌, Bool, true, false, List, [], ◌∷◌, ◌++◌, Option, Some, None, refl, sym, ap, subst, ◌∙◌, ◌⊎◌, inl, inr, map}
+use Rattle.std.proofs.Common.{◌≡◌, Bool, true, false, List, [], ◌∷◌, ◌++◌, Option, Some, None, refl, sym, ap, subst, ◌∙◌, ◌⊎◌, inl, inr, if◌then◌else◌}
 use Rattle.satp_base.specs.declared.message.Kind.{Kind}
 use Rattle.satp_base.specs.declared.message.Role.{Role}
 use Rattle.satp_base.specs.declared.message.Role.TheVariants.{Origin, Recipient}
@@ -17,9 +17,9 @@ use Rattle.satp_base.specs.declared.record.Rec.TheVariants.{Began, Took, Made, D
 use Rattle.satp_base.specs.declared.record.Next.{Next}
 use Rattle.satp_base.specs.declared.record.Next.TheVariants.{Append, Act, Wait, Ended}
 use Rattle.satp_base.specs.declared.view.View.{View}
+use Rattle.satp_base.specs.Tales.{maker, makes, is_role}
 use Rattle.satp_base.specs.Roles.{Line, first_line, origin_table, recipient_table, next_of, After}
-use Rattle.satp_base.proofs.Finite.{In}
-use Rattle.satp_base.proofs.Finite.In.{here, there}
+use Rattle.satp_base.proofs.Finite.{all_of, andthen-left, andthen-right}
 
 -- ---- what a table gives
 
@@ -27,14 +27,22 @@ abbrev pub nexts : List Line → List Next
 nexts [] = []
 nexts (l ∷ ls) = l.next ∷ nexts ls
 
-first-step : (l : Line) (ls : List Line) (n : Next) (fits : Bool) → l.fits ≡ fits → ((first_line ls ≡ n) → In n (nexts ls) ⊎ (n ≡ Wait)) → first_line (l ∷ ls) ≡ n → In n (nexts (l ∷ ls)) ⊎ (n ≡ Wait)
-first-step l ls n true e rest h = inl (subst (λ v. In v (nexts (l ∷ ls))) (sym (rw e) ∙ h) here)
-first-step l ls n false e rest h = elim (rest (sym (rw e) ∙ h)) [ inl i ↦ inl (there i) | inr w ↦ inr w ]
+abbrev pub table_of : Role → View → List Line
+table_of Origin v = origin_table v
+table_of Recipient v = recipient_table v
 
--- the first line that fits is one of the table's, and where none does it is Wait
-pub first-among : (ls : List Line) (n : Next) → first_line ls ≡ n → In n (nexts ls) ⊎ (n ≡ Wait)
-first-among [] n h = inr (sym h)
-first-among (l ∷ ls) n h = first-step l ls n l.fits refl (first-among ls n) h
+-- what holds of each line's next, and of Wait, holds of what the table gives
+pub table-gives : (f : Next → Bool) (ls : List Line) → all_of f (nexts ls) ≡ true → f Wait ≡ true → f (first_line ls) ≡ true
+table-gives f [] h w = w
+table-gives f (l ∷ ls) h w = by_line l.fits (table-gives f ls (andthen-right (f l.next) (λ _. all_of f (nexts ls)) h) w)
+  where
+    by_line : (fits : Bool) → f (first_line ls) ≡ true → f (if fits then l.next else first_line ls) ≡ true
+    by_line true rest = andthen-left (f l.next) (λ _. all_of f (nexts ls)) h
+    by_line false rest = rest
+
+pub role-gives : (f : Next → Bool) (role : Role) (v : View) → all_of f (nexts (table_of role v)) ≡ true → f Wait ≡ true → f (next_of role v) ≡ true
+role-gives f Origin v h w = table-gives f (origin_table v) h w
+role-gives f Recipient v h w = table-gives f (recipient_table v) h w
 
 -- ---- the record behind an answer
 
@@ -65,3 +73,20 @@ after-chose Mint answer.UnknownAsset w x = inr (refl, inl (cc x))
 after-chose Mint (answer.Capped total) w x = inr (refl, inr (inl (cc x)))
 after-chose Mint (answer.Taken entry) w x = inr (refl, inr (inr (cc x)))
 after-chose _ _ w x = absurd x
+
+-- ---- who makes a kind
+
+is_role-is : (role : Role) (o : Option Role) → is_role role o ≡ true → o ≡ Some role
+is_role-is Origin (Some Origin) h = refl
+is_role-is Recipient (Some Recipient) h = refl
+is_role-is _ _ h = absurd (cc h)
+
+is_role-refl : (role : Role) → is_role role (Some role) ≡ true
+is_role-refl Origin = refl
+is_role-refl Recipient = refl
+
+pub makes-is : (role : Role) (k : Kind) → makes role k ≡ true → maker k ≡ Some role
+makes-is role k h = is_role-is role (maker k) h
+
+pub is-makes : (role : Role) (k : Kind) → maker k ≡ Some role → makes role k ≡ true
+is-makes role k h = ap (is_role role) h ∙ is_role-refl role

@@ -6,7 +6,7 @@ use Rattle.std.proofs.lemmas.Bool.{cases_lt}
 use Rattle.satp_base.specs.declared.area.Area.{Area}
 use Rattle.satp_base.specs.declared.area.Event.{Event}
 use Rattle.satp_base.specs.declared.area.Event.TheVariants.{Left}
-use Rattle.satp_base.specs.Segments.{IsChangeOf, EndsInChange, IsCut}
+use Rattle.satp_base.specs.Segments.{EndsInChange, IsCut}
 
 module _ (area : Area) where
   abbrev with_left : List ℕ → List Event → List Event

@@ -1,9 +1,9 @@
 -- Each image stands for one list, or has one damage.
-use Rattle.std.proofs.Common.{◌≡◌, ◌≢◌, ◌≤◌, ◌<◌, ◌⊎◌, ℕ, zero, suc, ◌+◌, ◌-◌, ◌*◌, ◌/◌, ◌%◌, List, [], ◌∷◌, ◌++◌, length, take, drop, refl, sym, ap, ◌∙◌, subst, inl, inr, ⊎_elim, arith, append_assoc, length-append}
+use Rattle.std.proofs.Common.{◌≡◌, ◌≢◌, ◌≤◌, ◌<◌, ◌⊎◌, ℕ, zero, suc, ◌+◌, ◌*◌, ◌/◌, ◌%◌, List, [], ◌∷◌, ◌++◌, length, take, drop, refl, sym, ap, ◌∙◌, subst, inl, inr, ⊎_elim, arith, append_assoc, length-append}
 use Rattle.std.proofs.lemmas.List.{length-take-le, length-drop, take-append-drop, take_at, drop_at}
 use Rattle.std.proofs.lemmas.Bool.{cases_eq, cases_lt}
 use Rattle.std.specs.List.{AllByRecursion}
-use Rattle.satp_base.specs.Format.{IsPayload, counted, records, EndsAt, IsClosed, Stands, SplitsOff, NoRecord, Breaks, Damage}
+use Rattle.satp_base.specs.Format.{IsPayload, counted, records, EndsAt, Stands, SplitsOff, NoRecord, Damage}
 
 -- a record is here where its length says so
 pub record_there : (high low : ℕ) (after : List ℕ) → low < 256 → 1 ≤ high * 256 + low → high * 256 + low ≤ 4096 → high * 256 + low < length after → SplitsOff (high ∷ low ∷ after) (take (high * 256 + low) after) (drop (high * 256 + low) after)

@@ -25,3 +25,5 @@ pub mod Roles
 pub mod Signatures
 pub mod Chains
 pub mod Lines
+pub mod Stops
+pub mod Wires

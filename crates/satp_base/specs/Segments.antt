@@ -3,7 +3,7 @@ use Rattle.std.specs.Prelude.{◌≡◌, ◌⊎◌, ◌||◌, ◌==◌, not, Boo
 use Rattle.satp_base.specs.declared.area.Area.{Area}
 use Rattle.satp_base.specs.declared.area.Event.{Event}
 use Rattle.satp_base.specs.declared.area.Event.TheVariants.{Wrote, Cut, Synced, Left, Founded, Acted}
-use Rattle.satp_base.specs.Format.{counted, records}
+use Rattle.satp_base.specs.Format.{counted}
 
 -- a frame is written behind the closed gate and synced, and then the gate is opened and synced
 abbrev pub frame_events : Area → ℕ → List ℕ → List Event

@@ -10,6 +10,7 @@ mod fault;
 mod form;
 mod genesis;
 mod head;
+mod laws;
 mod ledger;
 mod lines;
 mod message;
@@ -22,6 +23,7 @@ mod tale;
 mod text;
 mod text_laws;
 mod view;
+mod wire;
 
 pub use address::Address;
 pub use amount::Amount;
@@ -31,6 +33,7 @@ pub use digits::read_number;
 pub use fault::{AmountFault, NameFault, SessionFault};
 pub use genesis::{Asset, Genesis, Hold};
 pub use head::Head;
+pub use laws::{law_append, law_open, law_readings, law_stops};
 pub use ledger::{
     ActFault, Answer, CoreFault, Entry, LedgerCall, LedgerEntry, LedgerKind, LedgerOp,
 };
@@ -45,3 +48,4 @@ pub use tale::Tale;
 pub use text::{Memory, Text, Texts};
 pub use text_laws::{law_next_text, law_signatures};
 pub use view::{Done, View};
+pub use wire::{Dial, Wire, WireFault};

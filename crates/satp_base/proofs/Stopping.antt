@@ -14,7 +14,8 @@ use Rattle.satp_base.specs.declared.ledger.LedgerOp.TheVariants.{Lock, Burn, Min
 use Rattle.satp_base.specs.declared.ledger.Answer.TheVariants.{NoFunds, Capped}
 use Rattle.satp_base.specs.declared.message.Terms.{Terms}
 use Rattle.satp_base.specs.declared.session.SessionId.{SessionId}
-use Rattle.satp_base.specs.Calls.{Told}
+use Rattle.satp_base.specs.Acts.{operation_events}
+use Rattle.satp_base.specs.Calls.{Told, asked, made}
 use Rattle.satp_base.specs.Format.{records, IsClosed}
 use Rattle.satp_base.specs.LedgerAt.{entries_after, ledger_at}
 use Rattle.satp_base.specs.LedgerRule.{Operation, operation, operation_on, mint_on, moves, stays, entry_of}
@@ -22,7 +23,7 @@ use Rattle.satp_base.specs.Ledgers.{Entries}
 use Rattle.satp_base.specs.Money.{Book, cap_of, free_of, total_of}
 use Rattle.satp_base.specs.Laws.{ClosesAt}
 use Rattle.satp_base.specs.Segments.{IsCut, append_events}
-use Rattle.satp_base.specs.Stops.{Kept, Step, Stores, Operates, Says, after_step, after_steps, step_events, segments, told_step, told_steps, operation_events, FailsIn, StopsIn, AllPayloads, AllStand, StandsAt, StandsAmong, StopsLeave, StepsEnd, StepsTell}
+use Rattle.satp_base.specs.Stops.{Kept, Step, Stores, Operates, Says, after_step, after_steps, step_events, segments, told_step, told_steps, FailsIn, StopsIn, AllPayloads, AllStand, StandsAt, StandsAmong, StopsLeave, StepsEnd, StepsTell}
 use Rattle.satp_base.proofs.Standings.{keeps_split, same_area_refl, left_same, take_nil}
 use Rattle.satp_base.proofs.Appends.{stores_leave, stores_end}
 use Rattle.satp_base.proofs.Closing.{closed_stands, stands_closed_at, stores_stand}
@@ -271,8 +272,7 @@ fails_cut : (area : Area) (k : Kept) (m : Step) (rest : List Event) (t new : Tol
 fails_cut area k (Stores q) rest t new fails =
     let r = among_cut area (append_events area (length (records k.payloads)) q) (Some t) (Some new) (append_changes area (length (records k.payloads)) q) fails in
     (r.1, cut_left area _ rest r.1 r.2, ap (λ (u : Told). u.trail) (some_told r.3))
-fails_cut area k (Operates op session terms) rest t new (events, inl none, is) = (events, cut_none area _ events none, ap (λ (u : Told). u.trail) is)
-fails_cut area k (Operates op session terms) rest t new (events, inr whole, is) = (events, cut_whole area _ rest events whole, ap (λ (u : Told). u.trail) is)
+fails_cut area k (Operates op session terms) rest t new (events, took, is) = (events, ⊎_elim (cut_none area _ events) (cut_whole area _ rest events) took, ⊎_elim (ap (λ (u : Told). u.trail)) (ap (λ (u : Told). u.trail)) is)
 fails_cut area k Says rest t new fails = absurd fails
 
 told_stops : (steps : List Step) (t new : Told) (area : Area) (k : Kept) → StopsIn area k steps t new → (events : List Event) × IsCut area (segments area k steps) events × (new.trail ≡ extended t.trail events)

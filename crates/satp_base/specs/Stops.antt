@@ -1,17 +1,17 @@
 -- What a stop leaves of a list of appends and operations, as a law over trails alone. A payload is bytes here, and nothing more.
-use Rattle.std.specs.Prelude.{◌≡◌, ◌≢◌, ◌⊎◌, ℕ, List, [], ◌∷◌, ◌++◌, length, take, Some, if◌then◌else◌}
+use Rattle.std.specs.Prelude.{◌≡◌, ◌≢◌, ◌⊎◌, ℕ, List, [], ◌∷◌, ◌++◌, length, take, Some}
 use Rattle.satp_base.specs.declared.area.Area.{Area}
 use Rattle.satp_base.specs.declared.area.Event.{Event}
-use Rattle.satp_base.specs.declared.area.Event.TheVariants.{Acted}
 use Rattle.satp_base.specs.declared.ledger.LedgerOp.{LedgerOp}
 use Rattle.satp_base.specs.declared.ledger.LedgerCall.TheVariants.{Act}
 use Rattle.satp_base.specs.declared.message.Terms.{Terms}
 use Rattle.satp_base.specs.declared.session.SessionId.{SessionId}
+use Rattle.satp_base.specs.Acts.{operation_events}
 use Rattle.satp_base.specs.Trail.{Trail, IsImage, KeepsModel, extended}
 use Rattle.satp_base.specs.Calls.{Told, made, asked, FailsAmong}
 use Rattle.satp_base.specs.Format.{records, IsPayload, Stands}
 use Rattle.satp_base.specs.LedgerAt.{ledger_at}
-use Rattle.satp_base.specs.LedgerRule.{Operation, operation}
+use Rattle.satp_base.specs.LedgerRule.{operation}
 use Rattle.satp_base.specs.Money.{Book}
 use Rattle.satp_base.specs.Segments.{IsCut, append_events}
 
@@ -34,10 +34,6 @@ after_step k Says = k
 abbrev pub after_steps : Kept → List Step → Kept
 after_steps k [] = k
 after_steps k (m ∷ ms) = after_steps (after_step k m) ms
-
--- the event of an operation, where it changes an entry
-abbrev pub operation_events : Operation → LedgerOp → SessionId → Terms → List Event
-operation_events o op session terms = if o.changes then Acted op session terms ∷ [] else []
 
 -- A stored payload has the four events of an append, an operation that changes an entry has its one event, and every other step has none.
 abbrev pub step_events : Area → Kept → Step → List Event
@@ -65,7 +61,8 @@ told_steps area k (m ∷ ms) t = told_steps area (after_step k m) ms (told_step 
 abbrev pub FailsIn : Area → Kept → Step → Told → Told → Type 0
 FailsIn area k (Stores q) t new = FailsAmong area (append_events area (length (records k.payloads)) q) (Some t) (Some new)
 FailsIn area k (Operates op session terms) t new =
-    let whole = operation_events (operation k.ledger op session terms) op session terms in (events : List Event) × ((events ≡ []) ⊎ (events ≡ whole)) × (new ≡ asked (Act op session terms) events t)
+    let whole = operation_events (operation k.ledger op session terms) op session terms in (events : List Event) × ((events ≡ []) ⊎ (events ≡ whole))
+    × ((new ≡ asked (Act op session terms) events t) ⊎ (new ≡ made 1 events t))
 FailsIn area k Says t new = ⊥
 
 -- some of the steps were made, and the next one failed

@@ -10,6 +10,7 @@ pub mod LedgerRule
 pub mod LedgerAt
 pub mod Values
 pub mod Canonical
+pub mod Forms
 pub mod Streams
 pub mod Trail
 pub mod Calls

@@ -4,6 +4,7 @@
 mod address;
 mod amount;
 mod area;
+mod canonical;
 mod device;
 mod digits;
 mod fault;
@@ -13,6 +14,7 @@ mod head;
 mod laws;
 mod ledger;
 mod lines;
+mod member;
 mod message;
 mod name;
 mod record;
@@ -28,6 +30,7 @@ mod wire;
 pub use address::Address;
 pub use amount::Amount;
 pub use area::{Area, Event};
+pub use canonical::law_one_message;
 pub use device::{Device, Disk, DiskFault};
 pub use digits::read_number;
 pub use fault::{AmountFault, NameFault, SessionFault};
@@ -38,6 +41,8 @@ pub use ledger::{
     ActFault, Answer, CoreFault, Entry, LedgerCall, LedgerEntry, LedgerKind, LedgerOp,
 };
 pub use lines::{AddFault, LineReader, LinesFault, read_lines};
+pub use ledger::{Answer, Entry, LedgerCall, LedgerEntry, LedgerKind, LedgerOp};
+pub use member::MemberName;
 pub use message::{Body, Kind, Link, Message, Part, Reason, Role, Terms};
 pub use name::Name;
 pub use record::{Cause, Next, Rec, TooLate, Way};

@@ -6,7 +6,7 @@ use Rattle.std.proofs.lemmas.Bool.{and_parts, eqb-false}
 use Rattle.std.proofs.lemmas.List.{append_cancel_left}
 use Rattle.satp_base.specs.Canonical.{array, string, Member, member, object}
 use Rattle.satp_base.specs.Numbers.{is_digit}
-use Rattle.satp_base.proofs.Plain.{IsPlain, digits_decimal, is_plain, weaker}
+use Rattle.satp_base.proofs.Plain.{ArePlain, IsPlain, digits_decimal, is_plain, weaker}
 
 pub same_tail : {c d : ℕ} (xs ys : List ℕ) → c ∷ xs ≡ d ∷ ys → xs ≡ ys
 same_tail xs ys e = cc
@@ -126,9 +126,6 @@ pub closed_object : (x y : Member) (xs ys : List Member) → Alike (x ∷ xs) (y
 closed_object x y xs ys a c d r s h i e = let both = cut_object x y xs ys (c ∷ r) (d ∷ s) a e in (ap object both.0, both.1)
 
 -- ---- an array of quoted texts
-
-abbrev pub ArePlain : List (List ℕ) → Type 0
-ArePlain xs = list_all (list_all is_plain) xs ≡ true
 
 abbrev more : List (List ℕ) → List ℕ
 more ws = flat_map (λ w. 44 ∷ string w) ws

@@ -9,7 +9,7 @@ use Rattle.std.proofs.lemmas.Fmt.{decimal_is_IsNumeral}
 use Rattle.std.proofs.lemmas.Str.Parse.{digit_from_value}
 use Rattle.base64.specs.Rfc4648.{encode_symbols}
 use Rattle.satp_base.specs.Canonical.{base64url, kind_text, link_text, reason_text}
-use Rattle.satp_base.specs.Forms.{IsLink, is_entry, is_entry_byte}
+use Rattle.satp_base.specs.Forms.{IsLink, are_entries, is_entry, is_entry_byte}
 use Rattle.satp_base.specs.Names.{is_name_byte, is_lower, is_upper}
 use Rattle.satp_base.specs.Numbers.{is_digit}
 use Rattle.satp_base.specs.Values.{name_text, session_text}
@@ -70,6 +70,16 @@ plain_name n = weaker is_name_byte is_plain plain_name_byte (name_text n) (name_
 
 pub plain_entry : (bytes : List ℕ) → is_entry bytes ≡ true → IsPlain bytes
 plain_entry bytes e = weaker is_entry_byte is_plain plain_entry_byte bytes (and_parts _ _ e).1
+
+abbrev pub ArePlain : List (List ℕ) → Type 0
+ArePlain xs = list_all (list_all is_plain) xs ≡ true
+
+pub plain_entries : (es : List (List ℕ)) → are_entries es ≡ true → ArePlain es
+plain_entries es e = each es (and_parts _ _ e).1
+  where
+    each : (xs : List (List ℕ)) → list_all is_entry xs ≡ true → list_all (list_all is_plain) xs ≡ true
+    each [] h = refl
+    each (x ∷ xs) h = let p = and_parts _ _ h in and_from _ _ (plain_entry x p.0) (each xs p.1)
 
 pub digits_decimal : (n : ℕ) → n < 2 ^ 64 → list_all is_digit (decimal n) ≡ true
 digits_decimal n h = all (decimal n) (decimal_is_IsNumeral n h).0.1

@@ -26,11 +26,12 @@ mod text;
 mod text_laws;
 mod view;
 mod wire;
+mod words;
 
 pub use address::Address;
 pub use amount::Amount;
 pub use area::{Area, Event};
-pub use canonical::law_one_message;
+pub use canonical::{law_ascii, law_one_message};
 pub use device::{Device, Disk, DiskFault};
 pub use digits::read_number;
 pub use fault::{AmountFault, NameFault, SessionFault};

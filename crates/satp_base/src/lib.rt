@@ -42,7 +42,6 @@ pub use ledger::{
     ActFault, Answer, CoreFault, Entry, LedgerCall, LedgerEntry, LedgerKind, LedgerOp,
 };
 pub use lines::{AddFault, LineReader, LinesFault, read_lines};
-pub use ledger::{Answer, Entry, LedgerCall, LedgerEntry, LedgerKind, LedgerOp};
 pub use member::MemberName;
 pub use message::{Body, Kind, Link, Message, Part, Reason, Role, Terms};
 pub use name::Name;

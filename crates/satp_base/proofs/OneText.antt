@@ -1,15 +1,12 @@
 -- No two messages have one text.
 use Rattle.std.proofs.Common.{◌≡◌, ℕ, zero, suc, ◌+◌, ◌*◌, ◌/◌, ◌%◌, ◌<◌, ◌≤◌, ◌^◌, ◌&&◌, ◌==◌, Bool, true, List, [], ◌∷◌, ◌++◌, length, get_or, map, decimal, Some, IsTrue, inl, inr, ◌⊎◌, refl, ap, subst, sym, ◌∙◌, arith}
-use Rattle.std.specs.Coded.{le_prop}
-use Rattle.satp_base.specs.Numbers.{greatest_amount}
 use Rattle.std.specs.Prelude.{slice_index, position, unwrap_or, ⊤}
-use Rattle.std.specs.List.{list_all}
-use Rattle.std.proofs.lemmas.Bool.{and_from, and_parts, cases_lt, eqb-false, eqb-true}
+use Rattle.std.proofs.lemmas.Bool.{and_parts, cases_lt, eqb-false, eqb-true}
 use Rattle.std.proofs.lemmas.Fmt.{decimal_injective}
 use Rattle.std.proofs.lemmas.List.{append_cancel_right}
 use Rattle.base64.specs.Rfc4648.{encode_symbols}
 use Rattle.satp_base.specs.Canonical.{IsText, fields, array, base64url, canonical, field_member, kind_named, kind_of, kind_text, link_text, Member, message_member, object, reason_named, reason_text, row, string, term, terms_fields, value_text}
-use Rattle.satp_base.specs.Forms.{HasLink, IsBody, IsLink, IsMessage, IsPlace, are_entries, is_entry, is_plain as is_plain_kind}
+use Rattle.satp_base.specs.Forms.{HasLink, IsBody, IsLink, IsMessage, IsPlace, are_entries, is_plain as is_plain_kind}
 use Rattle.satp_base.specs.Values.{name_text, session_text}
 use Rattle.satp_base.specs.declared.amount.Amount.{Amount}
 use Rattle.satp_base.specs.declared.member.MemberName.{MemberName}
@@ -28,10 +25,9 @@ use Rattle.satp_base.specs.declared.message.Body.{Body}
 use Rattle.satp_base.specs.declared.message.Body.TheVariants as body
 use Rattle.satp_base.specs.declared.message.Message.{Message}
 use Rattle.satp_base.specs.Keys.{same_amount}
-use Rattle.satp_base.specs.Names.{is_name_byte}
-use Rattle.satp_base.proofs.MemberTexts.{cut, Alike, IsClosed, closed_array, closed_decimal, closed_object, closed_string, cut_array, cut_first, cut_object, same_tail}
+use Rattle.satp_base.proofs.MemberTexts.{Alike, IsClosed, closed_array, closed_decimal, closed_object, closed_string, cut_array, cut_first, cut_object, same_tail}
 use Rattle.satp_base.proofs.Exact.{same_session_text, same_text}
-use Rattle.satp_base.proofs.Plain.{is_plain, plain_entry, plain_kind, plain_link, plain_name, plain_reason, plain_session}
+use Rattle.satp_base.proofs.Plain.{plain_entries, plain_kind, plain_link, plain_name, plain_reason, plain_session}
 
 -- ---- links
 
@@ -230,15 +226,6 @@ one_terms t u e =
         → (let t : Terms = record { amount = a; asset = c; beneficiary = e; originator = g } in t) ≡ record { amount = b; asset = d; beneficiary = f; originator = h }
     terms_of a b c d e f g h p q r s = rw (p, q, r, s) refl
 
--- ---- entries
-
-plain_entries : (es : List (List ℕ)) → IsTrue (are_entries es) → list_all (list_all is_plain) es ≡ true
-plain_entries es e = each es (and_parts _ _ e).1
-  where
-    each : (xs : List (List ℕ)) → list_all is_entry xs ≡ true → list_all (list_all is_plain) xs ≡ true
-    each [] h = refl
-    each (x ∷ xs) h = let p = and_parts _ _ h in and_from _ _ (plain_entry x p.0) (each xs p.1)
-
 -- ---- the kind stands where every text of its row begins
 
 abbrev chain_row : List MemberName
@@ -268,6 +255,9 @@ begins _ = inr (record { next = name.Previous; rest = _; is = refl })
 abbrev text_in : Message → List MemberName → List ℕ
 text_in m names = object (map (message_member m) names)
 
+abbrev text_of : Message → List ℕ
+text_of m = text_in m (row (kind_of m.body))
+
 -- the third byte of a text
 abbrev third : List ℕ → ℕ
 third t = get_or t 2 0
@@ -280,7 +270,7 @@ first_kind m n next other rest others e =
     one_kind _ _ (same_string _ _ (ap (λ (x : Member). x.1) (cut_first (message_member m name.Kind) (message_member n name.Kind) (map (message_member m) (next ∷ rest)) (map (message_member n) (other ∷ others)) refl
     (closed_string _ _ (plain_kind (kind_of m.body)) (plain_kind (kind_of n.body))) e)))
 
-kinds_same : (m n : Message) → canonical m ≡ canonical n → kind_of m.body ≡ kind_of n.body
+kinds_same : (m n : Message) → text_of m ≡ text_of n → kind_of m.body ≡ kind_of n.body
 kinds_same m n e = elim (begins (kind_of m.body)) [
   | inl update ↦ elim (begins (kind_of n.body)) [
     | inl other ↦ update ∙ sym other
@@ -334,7 +324,7 @@ one_message : (s t : SessionId) (a b c d : Name) (x y : Body) → s ≡ t → a 
 one_message s t a b c d x y e f g h = rw (e, f, g, h) refl
 
 abbrev Goal : Body → Body → Type 0
-Goal x y = (s t : SessionId) (a b c d : Name) → IsBody x × HasLink x → IsBody y × HasLink y → kind_of x ≡ kind_of y → canonical (message s a c x) ≡ canonical (message t b d y) → message s a c x ≡ message t b d y
+Goal x y = (s t : SessionId) (a b c d : Name) → IsBody x × HasLink x → IsBody y × HasLink y → kind_of x ≡ kind_of y → text_of (message s a c x) ≡ text_of (message t b d y) → message s a c x ≡ message t b d y
 
 proposals : (p q : ℕ) (l k : Link) (t u : Terms) → Goal (body.Chain p l (part.Proposal t)) (body.Chain q k (part.Proposal u))
 proposals p q l k t u s z a b c d f g same e =
@@ -454,7 +444,8 @@ by_sort x (body.Chain q k (part.Reject u)) e = absurd (omega arith)
 by_sort x y e = absurd (omega arith)
 
 pub one_text : (m n : Message) (t : List ℕ) → IsMessage m → IsMessage n → IsText m t → IsText n t → m ≡ n
+unfolding canonical
 one_text m n t f g d e =
-    let same = sym d ∙ e in
+    let same : text_of m ≡ text_of n = sym d ∙ e in
     let kinds = kinds_same m n same in
     by_sort m.body n.body (sym (sorted m.body f.0) ∙ ap kind_sort kinds ∙ sorted n.body g.0) m.session n.session m.sender n.sender m.receiver n.receiver f g kinds same

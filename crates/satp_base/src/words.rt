@@ -1,6 +1,6 @@
 //! The words by which messages name kinds and reasons.
 
-use crate::message::{Kind, Reason};
+use crate::message::{Body, Kind, Part, Reason};
 
 impl Kind {
     ghost use Rattle.std.specs.Prelude.{◌≡◌};
@@ -45,6 +45,39 @@ impl Reason {
             Reason::MintCapped => "mint-capped",
             Reason::Aborted => "aborted",
             Reason::LedgerTaken => "ledger-taken",
+        }
+    }
+}
+
+impl Part {
+    ghost use Rattle.std.specs.Prelude.{◌≡◌};
+    ghost use Rattle.satp_base.specs.Canonical.{part_kind};
+
+    /// The kind of the chain message that says this.
+    pub fn kind(&self) -> Kind
+        ensures { result ≡ part_kind self.now }
+    {
+        match self {
+            Part::Proposal(_) => Kind::TransferProposal,
+            Part::Plain(kind) => *kind,
+            Part::Reject(_) => Kind::Reject,
+        }
+    }
+}
+
+impl Body {
+    ghost use Rattle.std.specs.Prelude.{◌≡◌};
+    ghost use Rattle.satp_base.specs.Canonical.{kind_of};
+
+    /// The kind of the message.
+    pub fn kind(&self) -> Kind
+        ensures { result ≡ kind_of self.now }
+    {
+        match self {
+            Body::Chain { part, .. } => part.kind(),
+            Body::Recover { .. } => Kind::Recover,
+            Body::Update { .. } => Kind::RecoverUpdate,
+            Body::Success { .. } => Kind::RecoverSuccess,
         }
     }
 }

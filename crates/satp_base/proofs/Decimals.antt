@@ -84,6 +84,9 @@ all_digits : (cs : List ℕ) → AllDigits 10 cs → list_all is_digit cs ≡ tr
 all_digits [] h = refl
 all_digits (c ∷ cs) h = let range = digit_from_value c h.0 in and_from _ _ (and_from _ _ (le-leb _ _ range.0) (le-leb _ _ range.1)) (all_digits cs h.1)
 
+pub decimal_digits : (n : ℕ) → n < 2 ^ 64 → list_all is_digit (decimal n) ≡ true
+decimal_digits n small = all_digits (decimal n) (decimal_is_IsNumeral n small).0.1
+
 pub is_number-decimal : (most n : ℕ) → 1 ≤ n → n ≤ most → most < 2 ^ 64 → is_number most (decimal n) ≡ true
 is_number-decimal most n low high small =
     let numeral = decimal_is_IsNumeral n (omega arith) in

@@ -45,7 +45,7 @@ name_exact text (Err f) h n e = let none = sym h ∙ ap name_fault e ∙ no_name
 
 -- ---- addresses
 
-address_holds : (a : Address) → Holds 64 is_address_byte a.count a.bytes
+pub address_holds : (a : Address) → Holds 64 is_address_byte a.count a.bytes
 address_holds a = held 64 is_address_byte a.count a.bytes a.valid
 
 pub same_address_text : (a b : Address) → address_text a ≡ address_text b → a ≡ b

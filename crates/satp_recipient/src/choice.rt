@@ -2,9 +2,8 @@ ghost use Rattle.std.specs.Prelude.{◌≡◌, ◌↔◌, IsTrue, Some, None, Ok
 ghost use Rattle.satp_base.specs.Roles.{After, Gives, Other, RoleRule, next_of};
 ghost use Rattle.satp_recipient.specs.Choices.{abort_of};
 
-use satp_base::{Answer, Cause, Kind, LedgerOp, Next, Rec, Role, TooLate, View, Way};
-
 use crate::table::{next, turned_back};
+use satp_base::{Answer, Cause, Kind, LedgerOp, Next, Rec, Role, TooLate, View, Way};
 
 /// The record behind the ledger's answer to the operation that was due.
 pub fn after(_view: &View, op: LedgerOp, answer: &Answer) -> Rec

@@ -54,7 +54,11 @@ pub fn next(view: &View) -> Next
     }
     let due = release_due(view);
     if last == Some(Kind::Rollback) {
-        return if due { Next::Act(LedgerOp::Release) } else { Next::Append(Rec::Made(Kind::RollbackAck)) };
+        return if due {
+            Next::Act(LedgerOp::Release)
+        } else {
+            Next::Append(Rec::Made(Kind::RollbackAck))
+        };
     }
     if turned_back(view.way) {
         if due {

@@ -1,0 +1,118 @@
+ghost use Rattle.std.specs.Prelude.{◌≡◌, ◌↔◌, IsTrue, Some, None, Ok, Err};
+ghost use Rattle.satp_base.specs.Roles.{After, Gives, Other, RoleRule, next_of};
+ghost use Rattle.satp_origin.specs.Choices.{abort_of};
+
+use crate::table::{committed, next, turned_back};
+use satp_base::{Answer, Cause, Kind, LedgerOp, Next, Rec, Role, TooLate, View, Way};
+
+/// The record behind the ledger's answer to the operation that was due.
+pub fn after(_view: &View, op: LedgerOp, answer: &Answer) -> Rec
+    requires due { next_of Role.Origin _view.now ≡ Next.Act op }
+    requires given { Gives op answer.now }
+    ensures { After op answer.now result }
+{
+    match answer {
+        Answer::Done => Rec::Did(op),
+        Answer::NoFunds { .. }
+        | Answer::Taken { .. }
+        | Answer::UnknownAsset
+        | Answer::Capped { .. } => Rec::Chose(Way::Back(Cause::LockRefused)),
+    }
+}
+
+/// The record of a wish to turn back; none where the session is on its way back already.
+///
+/// `TooLate` of place 9 comes once this origin has committed.
+pub fn abort(view: &View) -> Result<Option<Rec>, TooLate>
+    ensures { result ≡ abort_of view.now }
+{
+    if committed(view.way) {
+        return Err(TooLate { place: 9 });
+    }
+    if turned_back(view.way) || view.tale.has(Kind::Rollback) {
+        return Ok(None);
+    }
+    Ok(Some(Rec::Chose(Way::Back(Cause::Aborted))))
+}
+
+/// Whether this side's next message is of this kind.
+fn makes(view: &View, kind: Kind) -> bool
+    ensures { IsTrue result ↔ (next_of Role.Origin view.now ≡ Next.Append (Rec.Made kind)) }
+{
+    match next(view) {
+        Next::Append(Rec::Made(due)) => due == kind,
+        _ => false,
+    }
+}
+
+/// Whether this decision is due.
+fn decides(view: &View, way: Way) -> bool
+    ensures { IsTrue result ↔ (next_of Role.Origin view.now ≡ Next.Append (Rec.Chose way)) }
+{
+    match next(view) {
+        Next::Append(Rec::Chose(due)) => due == way,
+        _ => false,
+    }
+}
+
+/// Whether this operation is due.
+fn acts(view: &View, op: LedgerOp) -> bool
+    ensures { IsTrue result ↔ (next_of Role.Origin view.now ≡ Next.Act op) }
+{
+    match next(view) {
+        Next::Act(due) => due == op,
+        _ => false,
+    }
+}
+
+/// Whether the side may turn back because it was asked to.
+fn may_abort(view: &View) -> bool
+    ensures { IsTrue result ↔ Other Role.Origin view.now (Rec.Chose (Way.Back Cause.Aborted)) }
+{
+    view.way.is_none() && !view.tale.whole()
+}
+
+/// Whether the side may enter a recovery round.
+fn may_rescue(view: &View) -> bool
+    ensures { IsTrue result ↔ Other Role.Origin view.now Rec.Rescue }
+{
+    view.way.is_none() && !view.rescue && !view.tale.whole()
+}
+
+/// Whether the side may choose to turn back for this cause.
+fn may_turn_back(view: &View, cause: Cause) -> bool
+    ensures { IsTrue result ↔ RoleRule Role.Origin view.now (Rec.Chose (Way.Back cause)) }
+{
+    match cause {
+        Cause::Aborted => may_abort(view),
+        Cause::LockRefused => acts(view, LedgerOp::Lock),
+        Cause::Rejected => decides(view, Way::Back(Cause::Rejected)),
+        Cause::Rescued => decides(view, Way::Back(Cause::Rescued)),
+        Cause::UnknownAsset | Cause::MintCapped | Cause::LedgerTaken => false,
+    }
+}
+
+/// Whether the side may choose this way.
+fn may_choose(view: &View, way: Way) -> bool
+    ensures { IsTrue result ↔ RoleRule Role.Origin view.now (Rec.Chose way) }
+{
+    match way {
+        Way::Back(cause) => may_turn_back(view, cause),
+        Way::Commit => decides(view, way),
+    }
+}
+
+/// Whether a record may come next.
+pub fn allows(view: &View, rec: &Rec) -> bool
+    ensures { IsTrue result ↔ RoleRule Role.Origin view.now rec.now }
+{
+    match *rec {
+        Rec::Took(kind) => kind.is_by(Role::Recipient) && view.tale.extends(kind),
+        Rec::Made(kind) => makes(view, kind),
+        Rec::Did(op) => acts(view, op),
+        Rec::Chose(way) => may_choose(view, way),
+        Rec::Rescue => may_rescue(view),
+        // A session begins once.
+        Rec::Began(_, _) => false,
+    }
+}

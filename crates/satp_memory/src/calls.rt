@@ -1,0 +1,80 @@
+ghost use Rattle.std.specs.Prelude.{◌≡◌, ◌≤◌, OnOk, OnErr};
+ghost use Rattle.satp_memory.specs.Calling.{fresh, is_due, naming, stepped, wanting};
+
+use satp_base::Memory;
+use std::alloc::Global;
+use std::marker::Model;
+
+/// Counts the calls on a device, and knows which of them are to fail.
+#[derive(Drop)]
+pub struct Calls {
+    count: u64,
+    faults: u64,
+    wants: u64,
+    named: Vec<u64>,
+}
+
+impl Model for Calls {
+    ghost use Rattle.satp_memory.specs.Calling.{Calling};
+
+    ghost Value = { Calling };
+
+    ghost view = { λ c. record { count = c.count; faults = c.faults; wants = c.wants; named = c.named.items } };
+}
+
+impl Calls {
+    pub fn new(alloc: Global) -> Calls
+        ensures { result ≡ fresh }
+    {
+        Calls {
+            count: 0,
+            faults: 0,
+            wants: 0,
+            named: Vec::new(alloc),
+        }
+    }
+
+    /// Makes the call of this number, from 1, fail.
+    pub fn fail(&mut self, call: u64) -> Result<(), Memory>
+        ensures ok { OnOk result (self.new ≡ naming call self.old) }
+        ensures err { OnErr result (self.new ≡ self.old) }
+    {
+        self.named.push(call)?;
+        Ok(())
+    }
+
+    /// Counts a call, and answers whether it is to fail.
+    pub fn begin(&mut self) -> bool
+        ensures due { result ≡ is_due self.old }
+        ensures counted { self.new ≡ stepped self.old }
+        ensures later { self.old.faults ≤ self.new.faults }
+    {
+        let due = self.count < u64::MAX && self.named.contains(&(self.count + 1));
+        self.count = self.count.saturating_add(1);
+        if due {
+            self.faults = self.faults.saturating_add(1);
+        }
+        due
+    }
+
+    /// Counts a fault of a call that found no memory.
+    pub fn want(&mut self)
+        ensures counted { self.new ≡ wanting self.old }
+        ensures later { self.old.faults ≤ self.new.faults }
+    {
+        self.faults = self.faults.saturating_add(1);
+        self.wants = self.wants.saturating_add(1);
+    }
+
+    pub fn count(&self) -> u64
+        ensures { result ≡ self.now.count }
+    {
+        self.count
+    }
+
+    pub fn wants(&self) -> u64
+        ensures { result ≡ self.now.wants }
+    {
+        self.wants
+    }
+}

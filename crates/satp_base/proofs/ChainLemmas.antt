@@ -1,11 +1,27 @@
 -- The texts of a chain, from its end.
 use Rattle.std.proofs.Common.{◌≡◌, ℕ, zero, suc, ◌+◌, ◌-◌, List, [], ◌∷◌, ◌++◌, length, refl, ap, sym, ◌∙◌, arith}
+use Rattle.std.specs.Prelude.{slice_get}
+use Rattle.satp_base.specs.Forms.{IsLink}
 use Rattle.satp_base.specs.Signatures.{own}
 use Rattle.satp_base.specs.Chains.{link_at, link_of, last_link, message_at, next_text, texts_from, texts_of, zero_link}
+use Rattle.sha2.proofs.Facts256.{length-sha256}
+use Rattle.satp_base.proofs.HashLemmas.{bytes_from, hash_bytes}
 use Rattle.satp_base.specs.declared.name.Name.{Name}
 use Rattle.satp_base.specs.declared.session.SessionId.{SessionId}
 use Rattle.satp_base.specs.declared.message.Link.{Link}
 use Rattle.satp_base.specs.declared.message.Part.{Part}
+
+pub link_formed : (text : List ℕ) → IsLink (link_of text)
+link_formed text = record { bytes = hash_bytes text; long = length-sha256 text }
+
+pub zero_formed : IsLink zero_link
+zero_formed = record { bytes = bytes_from (zero_link.0) refl; long = refl }
+
+pub link_at_formed : (texts : List (List ℕ)) (place : ℕ) → IsLink (link_at texts place)
+link_at_formed texts zero = zero_formed
+link_at_formed [] (suc n) = zero_formed
+link_at_formed (text ∷ texts) (suc zero) = link_formed text
+link_at_formed (text ∷ texts) (suc (suc n)) = link_at_formed texts (suc n)
 
 -- the link of the last text, and that before them where there is none
 abbrev pub link_behind : Link → List (List ℕ) → Link

@@ -8,8 +8,13 @@ use Rattle.base64.specs.GeneralPurpose.{IsBytes, decoded_bytes_of, encode_of}
 use Rattle.base64.specs.Rfc4648.{encode_symbols}
 use Rattle.base64.specs.declared.engine.DecodePaddingMode.TheVariants.{RequireNone}
 use Rattle.base64.proofs.RoundTrip.{decode-encode}
-use Rattle.satp_base.specs.Canonical.{base64url}
-use Rattle.satp_base.specs.Signatures.{encoded, hmac, jws, signing_input}
+use Rattle.satp_base.specs.Canonical.{base64url, canonical}
+use Rattle.satp_base.specs.Forms.{IsMessage}
+use Rattle.satp_base.specs.Signatures.{encoded, hmac, jws, own, own_header, signing_input}
+use Rattle.satp_base.specs.declared.message.Message.{Message}
+use Rattle.satp_base.proofs.AsciiText.{text_bytes}
+use Rattle.satp_base.proofs.HashLemmas.{bytes_from}
+use Rattle.satp_base.proofs.OneText.{one_text}
 
 -- ---- base64url gives its bytes back, and has no full stop
 
@@ -72,3 +77,10 @@ jws_shows key other h p i q hb pb ib qb e =
     let header = parted _ _ _ _ (no_stop_encoded h) (no_stop_encoded i) (sym left ∙ e ∙ right) in
     let payload = parted _ _ _ _ (no_stop_encoded p) (no_stop_encoded q) header.1 in
     (same_bytes h i hb ib header.0, same_bytes p q pb qb payload.0)
+
+pub own_shows : (key other : List ℕ) (m n : Message) → IsMessage m → IsMessage n → own key m ≡ own other n → m ≡ n
+unfolding own
+own_shows key other m n first second e =
+    let header : IsBytes own_header = bytes_from own_header refl in
+    let payload = jws_shows key other own_header (canonical m) own_header (canonical n) header (text_bytes m first) header (text_bytes n second) e in
+    one_text m n (canonical m) first second refl payload.1

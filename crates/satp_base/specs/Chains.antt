@@ -1,8 +1,11 @@
 -- The texts of a chain, which its parts determine.
 use Rattle.std.specs.Prelude.{◌≡◌, ℕ, zero, suc, ◌+◌, ◌-◌, ◌%◌, ◌==◌, List, [], ◌∷◌, ◌++◌, map, length, replicate, slice_get, if◌then◌else◌}
+use Rattle.std.specs.List.{AllByRecursion}
 use Rattle.std.specs.Option.{option_map_or}
 use Rattle.sha2.specs.Sha256.{sha256}
 use Rattle.satp_base.specs.Tales.{IsTale, other}
+use Rattle.satp_base.specs.Canonical.{part_kind}
+use Rattle.satp_base.specs.Forms.{IsPart}
 use Rattle.satp_base.specs.Signatures.{own}
 use Rattle.satp_base.specs.declared.name.Name.{Name}
 use Rattle.satp_base.specs.declared.session.SessionId.{SessionId}
@@ -18,11 +21,6 @@ use Rattle.satp_base.specs.declared.message.Message.{Message}
 use Rattle.satp_base.specs.declared.head.Head.{Head}
 
 -- ---- places
-
-abbrev pub kind_of : Part → Kind
-kind_of (Proposal terms) = kind.TransferProposal
-kind_of (Plain k) = k
-kind_of (Reject reason) = kind.Reject
 
 -- odd places are the origin's, even ones the recipient's
 abbrev pub role_at : ℕ → Role
@@ -76,9 +74,10 @@ texts_from session recipient key place previous (part ∷ parts) =
 abbrev pub texts_of : SessionId → Name → List ℕ → List Part → List (List ℕ)
 texts_of session recipient key parts = texts_from session recipient key 1 zero_link parts
 
--- the texts are those of these parts, whose kinds are a tale
+-- the texts are those of these parts, each of them formed, whose kinds are a tale
 pub record ChainOf (session : SessionId) (recipient : Name) (key : List ℕ) (parts : List Part) (texts : List (List ℕ)) : Type 0 where
-  pub tale : IsTale (map kind_of parts)
+  pub tale : IsTale (map part_kind parts)
+  pub formed : AllByRecursion IsPart parts
   pub each : texts ≡ texts_of session recipient key parts
 
 -- the text of this part behind these texts

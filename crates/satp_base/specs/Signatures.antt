@@ -4,6 +4,7 @@ use Rattle.base64.specs.Rfc4648.{encode_symbols}
 use Rattle.base64.specs.GeneralPurpose.{IsBytes}
 use Rattle.sha2.specs.Sha256.{sha256}
 use Rattle.satp_base.specs.Canonical.{base64url, canonical}
+use Rattle.satp_base.specs.Forms.{IsMessage}
 use Rattle.satp_base.specs.declared.message.Message.{Message}
 
 -- ---- HMAC
@@ -53,3 +54,7 @@ OnePayload =
     (key other : List ℕ) (header payload : List ℕ) (header' payload' : List ℕ)
     → IsBytes header → IsBytes payload → IsBytes header' → IsBytes payload'
     → jws key header payload ≡ jws other header' payload' → (header ≡ header') × (payload ≡ payload')
+
+-- a message's own text is that of no other message, whatever the key
+abbrev pub OneMessage : Type 0
+OneMessage = (key other : List ℕ) (m n : Message) → IsMessage m → IsMessage n → own key m ≡ own other n → m ≡ n

@@ -1,11 +1,16 @@
 //! Theorems on the texts that are signed, and on those of a chain. They stand over definitions alone and make no call.
 
-ghost use Rattle.satp_base.specs.Signatures.{OnePayload};
+ghost use Rattle.satp_base.specs.Signatures.{OneMessage, OnePayload};
 ghost use Rattle.satp_base.specs.Chains.{AppendsText};
 
 /// A compact JWS shows its header and its payload, under whatever keys.
 pub fn law_signatures()
     ensures { OnePayload }
+{}
+
+/// A text that is signed here is the text of one message, under whatever keys.
+pub fn law_one_own_text()
+    ensures { OneMessage }
 {}
 
 /// One more part puts one more text behind those of the parts before it.

@@ -6,8 +6,11 @@ use crate::text::Text;
 /// An area of bytes on a gateway's disk.
 #[derive(Clone, Copy, Debug, PartialEq, Eq)]
 pub enum Area {
+    /// The first of the two areas of a gateway's journal.
     JournalA,
+    /// The second.
     JournalB,
+    /// The journal of the ledger, where the gateway keeps one.
     Ledger,
 }
 

@@ -20,11 +20,17 @@ pub enum LedgerOp {
 /// How far the entry of a session has come in a ledger.
 #[derive(Clone, Copy, Debug, PartialEq, Eq)]
 pub enum Entry {
+    /// No operation has changed it yet.
     Absent,
+    /// The originator's amount is set aside.
     Locked,
+    /// The amount is gone from this ledger.
     Burnt,
+    /// The amount is made, and nobody owns it yet.
     Minted,
+    /// The amount is the beneficiary's.
     Assigned,
+    /// Nothing is held for the session, and nothing will be.
     Released,
 }
 
@@ -64,7 +70,9 @@ pub enum CoreFault {
 /// The entry of a session, with the terms that it keeps.
 #[derive(Clone, Copy, Debug, PartialEq, Eq)]
 pub struct LedgerEntry {
+    /// How far it has come.
     pub entry: Entry,
+    /// The terms that it was locked, minted or released under.
     pub terms: Terms,
 }
 

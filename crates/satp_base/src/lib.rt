@@ -24,6 +24,8 @@ mod stream;
 mod tale;
 mod text;
 mod text_laws;
+#[cfg(test)]
+mod value_tests;
 mod view;
 mod wire;
 mod words;

@@ -1,7 +1,7 @@
 use crate::ledger::LedgerOp;
 use crate::message::{Kind, Role, Terms};
 
-/// Why a session is rolled back.
+/// Why a side chose to roll a session back.
 #[derive(Clone, Copy, Debug, PartialEq, Eq)]
 pub enum Cause {
     /// An operator asked for it.
@@ -23,7 +23,9 @@ pub enum Cause {
 /// How a session is to end.
 #[derive(Clone, Copy, Debug, PartialEq, Eq)]
 pub enum Way {
+    /// The amount is burnt on one ledger and assigned on the other.
     Commit,
+    /// Nothing is moved: what was locked or minted is released.
     Back(Cause),
 }
 
@@ -60,5 +62,6 @@ pub enum Next {
 /// The session has come too far to be aborted: the message at this place decides it.
 #[derive(Clone, Copy, Debug, PartialEq, Eq)]
 pub struct TooLate {
+    /// The place in the chain, from 1 to 11.
     pub place: u8,
 }

@@ -20,7 +20,7 @@ impl<T: Drop> From<AllocFailed<T>> for Memory {
     }
 }
 
-/// Owned bytes.
+/// Owned bytes, of any value; contracts see the list of them.
 #[derive(Drop)]
 pub struct Text {
     bytes: Vec<u8>,
@@ -35,6 +35,7 @@ impl Model for Text {
 }
 
 impl Text {
+    /// A text of the same bytes.
     pub fn copy(alloc: Global, bytes: &[u8]) -> Result<Text, Memory>
         ensures { IfOk result (λ text. text ≡ bytes.now) }
     {
@@ -43,6 +44,7 @@ impl Text {
         })
     }
 
+    /// Puts the bytes behind those that are there. The text is as it was where no memory is found.
     pub fn append(&mut self, bytes: &[u8]) -> Result<(), Memory>
         ensures ok { OnOk result (self.new ≡ self.old ++ bytes.now) }
         ensures err { OnErr result (self.new ≡ self.old) }
@@ -51,6 +53,7 @@ impl Text {
         Ok(())
     }
 
+    /// The bytes of the text.
     pub fn bytes(&self) -> &[u8]
         ensures { result.now ≡ self.now }
     {
@@ -58,7 +61,7 @@ impl Text {
     }
 }
 
-/// Owned texts, in order.
+/// Owned texts, in order; contracts see the list of their lists of bytes.
 #[derive(Drop)]
 pub struct Texts {
     texts: Vec<Text>,
@@ -73,6 +76,7 @@ impl Model for Texts {
 }
 
 impl Texts {
+    /// No texts. It takes no memory before the first is pushed.
     pub fn new(alloc: Global) -> Texts
         ensures { result ≡ [] }
     {
@@ -81,7 +85,8 @@ impl Texts {
         }
     }
 
-    /// Hands the text back where no memory was found.
+    /// Puts the text behind those that are there. Where no memory is found it hands the text back, and the
+    /// others are as they were.
     pub fn push(&mut self, text: Text) -> Result<(), Text>
         ensures ok { OnOk result (self.new ≡ self.old ++ text ∷ []) }
         ensures err { OnErr result (self.new ≡ self.old) }
@@ -93,12 +98,14 @@ impl Texts {
         }
     }
 
+    /// How many texts there are.
     pub fn length(&self) -> usize
         ensures { result ≡ length self.now }
     {
         self.texts.len()
     }
 
+    /// The text at an index, counted from 0, if there are so many.
     pub fn get(&self, index: usize) -> Option<&Text>
         ensures { option_copied result ≡ slice_get self.now index }
     {

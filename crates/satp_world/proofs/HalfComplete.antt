@@ -1,0 +1,64 @@
+-- The tables are complete.
+use Rattle.std.proofs.Common.{◌≡◌, Bool, true, false, List, [], ◌∷◌, Option, Some, None}
+use Rattle.satp_base.specs.declared.message.Kind.{Kind}
+use Rattle.satp_base.specs.declared.record.Way.{Way}
+use Rattle.satp_base.specs.declared.record.Way.TheVariants.{Commit, Back}
+use Rattle.satp_base.specs.declared.record.Cause.{Cause}
+use Rattle.satp_base.specs.declared.record.Cause.TheVariants.{Aborted, LockRefused, Rejected, Rescued, UnknownAsset, MintCapped, LedgerTaken}
+use Rattle.satp_base.specs.declared.ledger.Entry.{Entry}
+use Rattle.satp_base.specs.declared.ledger.Entry.TheVariants.{Absent, Locked, Burnt, Minted, Assigned, Released}
+use Rattle.satp_base.specs.declared.view.Done.{Done}
+use Rattle.satp_world.specs.Sessions.{Half}
+use Rattle.satp_world.proofs.HalfTable.{Head, bools, causes, ways, entries, dones, half_with, halves_by, origins, recipients, origin_test, recipient_test}
+use Rattle.satp_base.proofs.Finite.{bind, keep, In, In-bind, In-keep}
+use Rattle.satp_base.proofs.Finite.In.{here, there}
+
+pub in_bools : (b : Bool) → In b bools
+in_bools true = here
+in_bools false = there here
+
+in_causes : (c : Cause) → In c causes
+in_causes Aborted = here
+in_causes LockRefused = there here
+in_causes Rejected = there (there here)
+in_causes Rescued = there (there (there here))
+in_causes UnknownAsset = there (there (there (there here)))
+in_causes MintCapped = there (there (there (there (there here))))
+in_causes LedgerTaken = there (there (there (there (there (there here)))))
+
+in_ways : (w : Option Way) → In w ways
+in_ways None = here
+in_ways (Some Commit) = there here
+in_ways (Some (Back c)) = there (there (In-bind (λ c. Some (Back c) ∷ []) (in_causes c) here))
+
+in_entries : (e : Entry) → In e entries
+in_entries Absent = here
+in_entries Locked = there here
+in_entries Burnt = there (there here)
+in_entries Minted = there (there (there here))
+in_entries Assigned = there (there (there (there here)))
+in_entries Released = there (there (there (there (there here))))
+
+in_dones : (d : Done) → In d dones
+in_dones d =
+    In-bind (λ l. bind bools (λ b. bind bools (λ m. bind bools (λ a. bind bools (λ r. record { lock = l; burn = b; mint = m; assign = a; release = r } ∷ []))))) (in_bools d.lock)
+    (In-bind (λ b. bind bools (λ m. bind bools (λ a. bind bools (λ r. record { lock = d.lock; burn = b; mint = m; assign = a; release = r } ∷ [])))) (in_bools d.burn)
+    (In-bind (λ m. bind bools (λ a. bind bools (λ r. record { lock = d.lock; burn = d.burn; mint = m; assign = a; release = r } ∷ []))) (in_bools d.mint)
+    (In-bind (λ a. bind bools (λ r. record { lock = d.lock; burn = d.burn; mint = d.mint; assign = a; release = r } ∷ [])) (in_bools d.assign)
+    (In-bind (λ r. record { lock = d.lock; burn = d.burn; mint = d.mint; assign = d.assign; release = r } ∷ []) (in_bools d.release) (here {xs = []})))))
+
+in_halves : (p : Head) (t : List Kind) (rescues : List Bool) (parts : Done → Option Way → Entry → Bool) (d : Done) (w : Option Way) (r : Bool) (e : Entry) → In r rescues → parts d w e ≡ true → In (half_with p t d w r e) (halves_by p t rescues parts)
+in_halves q t rescues parts d w r e i p =
+    In-bind (λ d. bind ways (λ w. bind entries (λ e. bind rescues (λ r. keep (parts d w e) (half_with q t d w r e))))) (in_dones d)
+    (In-bind (λ w. bind entries (λ e. bind rescues (λ r. keep (parts d w e) (half_with q t d w r e)))) (in_ways w)
+    (In-bind (λ e. bind rescues (λ r. keep (parts d w e) (half_with q t d w r e))) (in_entries e)
+    (In-bind (λ r. keep (parts d w e) (half_with q t d w r e)) i (In-keep (parts d w e) (half_with q t d w r e) p))))
+
+abbrev pub head_of : Half → Head
+head_of h = (h.view.role, h.view.terms)
+
+pub in_origins : (h : Half) → origin_test h.view.tale h.view.done h.view.way h.entry ≡ true → In h (origins (head_of h) h.view.tale)
+in_origins h p = in_halves (head_of h) h.view.tale bools (origin_test h.view.tale) h.view.done h.view.way h.view.rescue h.entry (in_bools h.view.rescue) p
+
+pub in_recipients : (h : Half) → In h.view.rescue (false ∷ []) → recipient_test h.view.tale h.view.done h.view.way h.entry ≡ true → In h (recipients (head_of h) h.view.tale)
+in_recipients h r p = in_halves (head_of h) h.view.tale (false ∷ []) (recipient_test h.view.tale) h.view.done h.view.way h.view.rescue h.entry r p

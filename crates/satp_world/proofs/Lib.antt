@@ -1,0 +1,14 @@
+pub mod Logic
+pub mod TaleSteps
+pub mod HalfTable
+pub mod HalfTest
+pub mod HalfCheck
+pub mod HalfComplete
+pub mod HalfSound
+pub mod DealSteps
+pub mod StepLaw
+pub mod SessionLaw
+pub mod Safety
+pub mod SafeTest
+pub mod SafeCheck
+pub mod SafeLaw

@@ -1,9 +1,12 @@
 //! The canonical texts of messages.
 #![tactic(auto)]
 
+mod fault;
 mod link;
 mod row;
 mod writer;
 
+pub use fault::CanonFault;
 pub use link::{link_of, link_read, link_text};
+pub use satp_base::MemberName;
 pub use writer::write;

@@ -1,0 +1,172 @@
+-- The first fault of bytes that are to be a canonical text, over the JSON value that `serde_json` reads from them.
+use Rattle.std.specs.Prelude.{ℕ, suc, ◌+◌, ◌&&◌, ◌==◌, Bool, true, false, not, List, [], ◌∷◌, ◌++◌, length, map, filter, fold, codes, decimal, nat_le, nat_lt, if◌then◌else◌, Option, Some, None, is_some, is_none, flat_map, option_and_then, option_map, slice_index, position}
+use Rattle.std.specs.List.{list_all, list_any}
+use Rattle.std.specs.Option.{option_map_or}
+use Rattle.std.specs.Ordering.{nat_cmp, match_ordering}
+use Rattle.std.specs.Cmp.Lexicographic.{slice_cmp}
+use Rattle.std.specs.Str.{bytes_eq, is_utf8}
+use Rattle.serde_json.specs.Data.{Data, null, boolean, number, string, array, object, Items, no_items, item, Members, no_members, member}
+use Rattle.serde_json.specs.Find.{as_array, as_number, as_object, as_str, as_u64, get}
+use Rattle.serde_json.specs.Read.{read}
+use Rattle.serde_json.specs.Written.{compact_text}
+use Rattle.satp_base.specs.Canonical as canon
+use Rattle.satp_base.specs.Canonical.{base64url, kind_named, member_named, member_text, reason_named, row, terms_row}
+use Rattle.satp_base.specs.Faults.{name_fault, session_fault}
+use Rattle.satp_base.specs.Forms.{is_entry}
+use Rattle.satp_base.specs.Numbers.{greatest_amount}
+use Rattle.satp_base.specs.declared.member.MemberName.{MemberName}
+use Rattle.satp_base.specs.declared.member.MemberName.TheVariants as name
+use Rattle.satp_base.specs.declared.message.Kind.{Kind}
+use Rattle.satp_canon.specs.declared.fault.CanonFault.{CanonFault}
+use Rattle.satp_canon.specs.declared.fault.CanonFault.TheVariants as fault
+
+-- ---- several tests
+
+abbrev pub first_of : List (Option CanonFault) → Option CanonFault
+first_of [] = None
+first_of (None ∷ others) = first_of others
+first_of (Some f ∷ others) = Some f
+
+-- ---- names of members
+
+abbrev pub member_list : Members → List (List ℕ)
+member_list no_members = []
+member_list (member name value others) = name ∷ member_list others
+
+abbrev pub names_of : Data → List (List ℕ)
+names_of d = option_map_or member_list (as_object d) []
+
+abbrev pub is_named : List MemberName → List ℕ → Bool
+is_named names text = list_any (λ n. bytes_eq (member_text n) text) names
+
+-- the names that stand in the list and not in the object, and those that stand in the object and not in the list
+abbrev pub odd_names : List MemberName → Data → List (List ℕ)
+odd_names names d = filter (λ text. not (is_some (get text d))) (map member_text names) ++ filter (λ text. not (is_named names text)) (names_of d)
+
+-- the lesser in byte order
+abbrev pub lesser : List ℕ → List ℕ → List ℕ
+lesser a b = match_ordering (slice_cmp nat_cmp a b) a a b
+
+abbrev pub least_yet : Option (List ℕ) → List ℕ → Option (List ℕ)
+least_yet None text = Some text
+least_yet (Some yet) text = Some (lesser yet text)
+
+abbrev pub least : List (List ℕ) → Option (List ℕ)
+least texts = fold least_yet None texts
+
+abbrev pub member_fault : List MemberName → Data → Option CanonFault
+member_fault names d = option_map (λ text. fault.Member (member_named text)) (least (odd_names names d))
+
+-- ---- forms of values
+
+-- a whole number as `serde_json` reads it, without a fraction, exponent or sign
+abbrev pub holds_number : (ℕ → Bool) → Data → Bool
+holds_number test d = option_map_or test (option_and_then as_u64 (as_number d)) false
+
+abbrev pub holds_text : (List ℕ → Bool) → Data → Bool
+holds_text test d = option_map_or test (as_str d) false
+
+abbrev pub is_within : ℕ → ℕ → ℕ → Bool
+is_within low high n = nat_le low n && nat_le n high
+
+abbrev pub is_symbol : ℕ → Bool
+is_symbol b = list_any (λ s. s == b) base64url
+
+-- the base64url of 32 bytes: 43 symbols, of which the last has two bits that are zero (RFC 4648, section 3.5)
+abbrev pub is_link : List ℕ → Bool
+is_link text = (length text == 43) && list_all is_symbol text && list_any (λ s. s == slice_index text 42) (codes "AEIMQUYcgkosw048")
+
+abbrev pub are_words : Items → Bool
+are_words no_items = true
+are_words (item d ds) = holds_text is_entry d && are_words ds
+
+abbrev pub count : Items → ℕ
+count no_items = 0
+count (item d ds) = count ds + 1
+
+-- at most two entries
+abbrev pub holds_entries : Data → Bool
+holds_entries d = option_map_or (λ ds. nat_le (count ds) 2 && are_words ds) (as_array d) false
+
+-- the value of this member has the type and form that its name wants; `terms` are looked into apart
+abbrev pub has_form : MemberName → Data → Bool
+has_form name.Amount d = holds_number (is_within 1 greatest_amount) d
+has_form name.Asset d = holds_text (λ text. is_none (name_fault text)) d
+has_form name.Beneficiary d = holds_text (λ text. is_none (name_fault text)) d
+has_form name.Entries d = holds_entries d
+has_form name.Kind d = holds_text (λ text. is_some (kind_named text)) d
+has_form name.Last d = holds_text is_link d
+has_form name.Length d = holds_number (is_within 0 11) d
+has_form name.Originator d = holds_text (λ text. is_none (name_fault text)) d
+has_form name.Previous d = holds_text is_link d
+has_form name.Reason d = holds_text (λ text. is_some (reason_named text)) d
+has_form name.Receiver d = holds_text (λ text. is_none (name_fault text)) d
+has_form name.Sender d = holds_text (λ text. is_none (name_fault text)) d
+has_form name.Sequence d = holds_number (is_within 1 11) d
+has_form name.Session d = holds_text (λ text. is_none (session_fault text)) d
+has_form name.Terms d = is_some (as_object d)
+has_form name.Version d = holds_number (is_within 1 1) d
+has_form name.Unknown d = false
+
+abbrev pub form_fault : MemberName → Data → Option CanonFault
+form_fault n d = if option_map_or (has_form n) (get (member_text n) d) false then None else Some (fault.Value n)
+
+-- the terms are an object, whose names are tested and then its values
+abbrev pub inner_fault : Option Data → Option CanonFault
+inner_fault None = None
+inner_fault (Some d) = first_of (member_fault terms_row d ∷ map (λ n. form_fault n d) terms_row)
+
+abbrev pub value_faults : MemberName → Data → List (Option CanonFault)
+value_faults name.Terms d = form_fault name.Terms d ∷ inner_fault (get (codes "terms") d) ∷ []
+value_faults n d = form_fault n d ∷ []
+
+abbrev pub values_fault : List MemberName → Data → Option CanonFault
+values_fault names d = first_of (flat_map (λ n. value_faults n d) names)
+
+-- ---- the value
+
+-- the names of the kind's members, and then their values
+abbrev pub kind_fault : Data → Option Kind → Option CanonFault
+kind_fault d None = Some (fault.Value name.Kind)
+kind_fault d (Some k) = first_of (member_fault (row k) d ∷ values_fault (row k) d ∷ [])
+
+-- a value that is no object has no member `kind`
+abbrev pub data_fault : Data → Option CanonFault
+data_fault d = option_map_or (λ v. kind_fault d (option_and_then kind_named (as_str v))) (get (codes "kind") d) (Some (fault.Member name.Kind))
+
+-- ---- the text
+
+-- the members of the kind, in their order, with the values that were read
+abbrev pub written_member : Data → MemberName → canon.Member
+written_member d n = (member_text n, option_map_or compact_text (get (member_text n) d) [])
+
+abbrev pub written_as : Kind → Data → List ℕ
+written_as k d = canon.object (map (written_member d) (row k))
+
+-- the canonical text of the message that was read
+abbrev pub written : Data → List ℕ
+written d = option_map_or (λ k. written_as k d) (option_and_then kind_named (option_and_then as_str (get (codes "kind") d))) []
+
+-- the first place where two texts differ, or the length of the shorter one
+abbrev pub common : List ℕ → List ℕ → ℕ
+common [] ys = 0
+common (x ∷ xs) [] = 0
+common (x ∷ xs) (y ∷ ys) = if x == y then common xs ys + 1 else 0
+
+abbrev pub text_fault : List ℕ → List ℕ → Option CanonFault
+text_fault text other = if bytes_eq text other then None else Some (fault.NotCanonical (common text other))
+
+abbrev pub json_fault : List ℕ → Option Data → Option CanonFault
+json_fault text None = Some fault.NotJson
+json_fault text (Some d) = first_of (data_fault d ∷ text_fault text (written d) ∷ [])
+
+-- the value that the bytes are, where they are UTF-8
+abbrev pub json_of : List ℕ → Option Data
+json_of text = if is_utf8 text then read text else None
+
+abbrev pub longest : ℕ
+longest = 8192
+
+-- None: the bytes are the canonical text of a message
+unfoldable pub first_fault : List ℕ → Option CanonFault
+first_fault text = if nat_lt longest (length text) then Some (fault.Long (length text)) else json_fault text (json_of text)

@@ -2,68 +2,90 @@
 use Rattle.std.proofs.Common.{◌≡◌, ◌≢◌, ℕ, zero, suc, ◌+◌, ◌-◌, ◌<◌, ◌≤◌, ◌==◌, ◌&&◌, Bool, true, false, not, cond, List, [], ◌∷◌, ◌++◌, length, take, drop, Option, Some, None, refl, ap, ap₂, subst, sym, ◌∙◌, arith, append_assoc, append-nil, length-append, length-drop, add-one}
 use Rattle.std.specs.Prelude.{position, slice_range}
 use Rattle.std.specs.List.{list_all, position_from}
-use Rattle.std.proofs.lemmas.Bool.{and_parts, and_from, eqb-true}
+use Rattle.std.proofs.lemmas.Bool.{and_parts, and_from, eqb-true, eq-eqb}
 use Rattle.std.proofs.lemmas.Iterator.Adapters.{position_from-zero}
 use Rattle.std.proofs.lemmas.List.{drop-take, take-append-drop}
 use Rattle.std.proofs.lemmas.Grind.{common_steps}
-use Rattle.satp_base.specs.Lines.{IsLines, Runs, StopsAt, are_lines, is_line, lines_text}
+use Rattle.std.proofs.Math.Seq.{drop-append-add, take-append_seam, take-length}
+use Rattle.satp_base.specs.Lines.{IsLines, Runs, StopsAt, are_lines, is_line, lacks, lines_text}
 
 abbrev pub is_feed : ℕ → Bool
 is_feed b = b == 10
 
--- a line, and what stands behind its line feed
-pub record First (rest : List ℕ) (n : ℕ) : Type 0 where
-  pub line : List ℕ
-  pub behind : List ℕ
-  pub whole : rest ≡ line ++ 10 ∷ behind
-  pub is_line : is_line line ≡ true
-  pub long : n ≡ length line
+-- what is left of the bytes
+pub piece : (k : ℕ) (bytes : List ℕ) → take (length bytes - k) (drop k bytes) ≡ drop k bytes
+piece k bytes = rw (← length-drop k bytes) (take-length (drop k bytes))
 
-one_more : (b : ℕ) (i : ℕ) (bs : List ℕ) (n : ℕ) (t : Bool) → (b == 10) ≡ t → cond t (Some i) (position_from is_feed (i + 1) bs) ≡ Some n → ((j m : ℕ) → position_from is_feed j bs ≡ Some m → First bs (m - j) × (j ≤ m)) → First (b ∷ bs) (n - i) × (i ≤ n)
-one_more b i bs n true is e rest =
-    let same : i ≡ n = cc in
-    (record { line = []; behind = bs; whole = ap (λ x. x ∷ bs) (eqb-true b 10 is); is_line = refl; long = omega arith }, omega arith)
-one_more b i bs n false is e rest =
-    let r = rest (i + 1) n e in
-    let f = r.0 in
-    (record { line = b ∷ f.line; behind = f.behind; whole = ap (λ x. b ∷ x) f.whole; is_line = and_from _ _ (ap not is) f.is_line; long = omega (arith, f.long, r.1) }, omega (arith, r.1))
+module _ (c : ℕ) where
+  -- a piece without the byte, and what stands behind the byte
+  pub record First (rest : List ℕ) (n : ℕ) : Type 0 where
+    pub line : List ℕ
+    pub behind : List ℕ
+    pub whole : rest ≡ line ++ c ∷ behind
+    pub is_line : lacks c line ≡ true
+    pub long : n ≡ length line
 
-first_from : (rest : List ℕ) (i n : ℕ) → position_from is_feed i rest ≡ Some n → First rest (n - i) × (i ≤ n)
-first_from [] i n e = absurd cc
-first_from (b ∷ bs) i n e = one_more b i bs n (b == 10) refl e (first_from bs)
+  one_more : (b : ℕ) (i : ℕ) (bs : List ℕ) (n : ℕ) (t : Bool) → (b == c) ≡ t → cond t (Some i) (position_from (λ x. x == c) (i + 1) bs) ≡ Some n → ((j m : ℕ) → position_from (λ x. x == c) j bs ≡ Some m → First bs (m - j) × (j ≤ m)) → First (b ∷ bs) (n - i) × (i ≤ n)
+  one_more b i bs n true is e rest =
+      let same : i ≡ n = cc in
+      (record { line = []; behind = bs; whole = ap (λ x. x ∷ bs) (eqb-true b c is); is_line = refl; long = omega arith }, omega arith)
+  one_more b i bs n false is e rest =
+      let r = rest (i + 1) n e in
+      let f = r.0 in
+      (record { line = b ∷ f.line; behind = f.behind; whole = ap (λ x. b ∷ x) f.whole; is_line = and_from _ _ (ap not is) f.is_line; long = omega (arith, f.long, r.1) }, omega (arith, r.1))
 
-pub first : (rest : List ℕ) (n : ℕ) → position is_feed rest ≡ Some n → First rest n
-first rest n e = subst (First rest) (sub_zero n) (first_from rest 0 n (sym (position_from-zero is_feed rest) ∙ e)).0
-  where
-    sub_zero : (k : ℕ) → k - 0 ≡ k
-    sub_zero k = omega arith
+  first_from : (rest : List ℕ) (i n : ℕ) → position_from (λ x. x == c) i rest ≡ Some n → First rest (n - i) × (i ≤ n)
+  first_from [] i n e = absurd cc
+  first_from (b ∷ bs) i n e = one_more b i bs n (b == c) refl e (first_from bs)
 
--- no line feed stands there
-not_feed : (b : ℕ) (i : ℕ) (later : Option ℕ) (t : Bool) → (b == 10) ≡ t → cond t (Some i) later ≡ None → (later ≡ None) × (b ≢ 10)
-not_feed b i later true is e = absurd cc
-not_feed b i later false is e = (e, λ same. let bad : false ≡ true = sym is ∙ ap (λ x. x == 10) same in absurd cc)
+  pub first : (rest : List ℕ) (n : ℕ) → position (λ x. x == c) rest ≡ Some n → First rest n
+  first rest n e = subst (First rest) (sub_zero n) (first_from rest 0 n (sym (position_from-zero (λ x. x == c) rest) ∙ e)).0
+    where
+      sub_zero : (k : ℕ) → k - 0 ≡ k
+      sub_zero k = omega arith
 
-none_from : (line behind : List ℕ) (i : ℕ) → position_from is_feed i (line ++ 10 ∷ behind) ≡ None → ⊥
-none_from [] behind i e = (not_feed 10 i (position_from is_feed (i + 1) behind) (10 == 10) refl e).1 refl
-none_from (b ∷ line) behind i e = none_from line behind (i + 1) (not_feed b i (position_from is_feed (i + 1) (line ++ 10 ∷ behind)) (b == 10) refl e).0
+  -- the byte doesn't stand there
+  not_there : (b : ℕ) (i : ℕ) (later : Option ℕ) (t : Bool) → (b == c) ≡ t → cond t (Some i) later ≡ None → (later ≡ None) × (not (b == c) ≡ true)
+  not_there b i later true is e = absurd cc
+  not_there b i later false is e = (e, ap not is)
 
-pub no_line : (rest line behind : List ℕ) → position is_feed rest ≡ None → rest ≡ line ++ 10 ∷ behind → ⊥
-no_line rest line behind e is = none_from line behind 0 (ap (position_from is_feed 0) (sym is) ∙ sym (position_from-zero is_feed rest) ∙ e)
+  lacks_from : (text : List ℕ) (i : ℕ) → position_from (λ x. x == c) i text ≡ None → lacks c text ≡ true
+  lacks_from [] i e = refl
+  lacks_from (b ∷ text) i e = let h = not_there b i (position_from (λ x. x == c) (i + 1) text) (b == c) refl e in and_from _ _ h.1 (lacks_from text (i + 1) h.0)
 
-head_same : (a b : ℕ) (xs ys : List ℕ) → a ∷ xs ≡ b ∷ ys → (a ≡ b) × (xs ≡ ys)
-head_same a b xs ys e = (cc, cc)
+  pub lacks_it : (text : List ℕ) → position (λ x. x == c) text ≡ None → lacks c text ≡ true
+  lacks_it text e = lacks_from text 0 (sym (position_from-zero (λ x. x == c) text) ∙ e)
 
-not_line : (line : List ℕ) → is_line (10 ∷ line) ≡ true → ⊥
-not_line line h = let bad : false ≡ true = (and_parts false (is_line line) h).0 in absurd cc
+  itself : (line : List ℕ) → lacks c (c ∷ line) ≡ true → ⊥
+  itself line h = let bad : false ≡ true = ap not (sym (eq-eqb c c refl)) ∙ (and_parts _ _ h).0 in absurd cc
 
--- a text begins with one line
-pub one_line : (a b behind_a behind_b : List ℕ) → is_line a ≡ true → is_line b ≡ true → a ++ 10 ∷ behind_a ≡ b ++ 10 ∷ behind_b → a ≡ b
-one_line [] [] x y p q e = refl
-one_line [] (b ∷ bs) x y p q e = let s = head_same 10 b x _ e in absurd (not_line bs (subst (λ (c : ℕ). is_line (c ∷ bs) ≡ true) (sym s.0) q))
-one_line (a ∷ as_) [] x y p q e = let s = head_same a 10 _ y e in absurd (not_line as_ (subst (λ (c : ℕ). is_line (c ∷ as_) ≡ true) s.0 p))
-one_line (a ∷ as_) (b ∷ bs) x y p q e =
-    let s = head_same a b _ _ e in
-    ap₂ (λ (c : ℕ) (cs : List ℕ). c ∷ cs) s.0 (one_line as_ bs x y (and_parts _ _ p).1 (and_parts _ _ q).1 s.1)
+  pub lacks_not : (line behind : List ℕ) → lacks c (line ++ c ∷ behind) ≡ true → ⊥
+  lacks_not [] behind h = itself behind h
+  lacks_not (b ∷ line) behind h = lacks_not line behind (and_parts _ _ h).1
+
+  pub no_line : (rest line behind : List ℕ) → position (λ x. x == c) rest ≡ None → rest ≡ line ++ c ∷ behind → ⊥
+  no_line rest line behind e is = lacks_not line behind (subst (λ x. lacks c x ≡ true) is (lacks_it rest e))
+
+  head_same : (a b : ℕ) (xs ys : List ℕ) → a ∷ xs ≡ b ∷ ys → (a ≡ b) × (xs ≡ ys)
+  head_same a b xs ys e = (cc, cc)
+
+  -- a text is cut at the byte in one way
+  pub one_cut : (a b behind_a behind_b : List ℕ) → lacks c a ≡ true → lacks c b ≡ true → a ++ c ∷ behind_a ≡ b ++ c ∷ behind_b → (a ≡ b) × (behind_a ≡ behind_b)
+  one_cut [] [] x y p q e = (refl, (head_same c c x y e).1)
+  one_cut [] (b ∷ bs) x y p q e = let s = head_same c b x _ e in absurd (itself bs (subst (λ (d : ℕ). lacks c (d ∷ bs) ≡ true) (sym s.0) q))
+  one_cut (a ∷ as_) [] x y p q e = let s = head_same a c _ y e in absurd (itself as_ (subst (λ (d : ℕ). lacks c (d ∷ as_) ≡ true) s.0 p))
+  one_cut (a ∷ as_) (b ∷ bs) x y p q e =
+      let s = head_same a b _ _ e in
+      let r = one_cut as_ bs x y (and_parts _ _ p).1 (and_parts _ _ q).1 s.1 in
+      (ap₂ (λ (d : ℕ) (ds : List ℕ). d ∷ ds) s.0 r.0, r.1)
+
+  -- before the byte, and behind it
+  pub cut_at : (text : List ℕ) (n : ℕ) → position (λ x. x == c) text ≡ Some n → (lacks c (take n text) ≡ true) × (text ≡ take n text ++ c ∷ take (length text - (n + 1)) (drop (n + 1) text))
+  cut_at text n e =
+      let f = first text n e in
+      let front : take n text ≡ f.line = ap₂ (λ (k : ℕ) (x : List ℕ). take k x) f.long f.whole ∙ take-append_seam f.line (c ∷ f.behind) in
+      let back : take (length text - (n + 1)) (drop (n + 1) text) ≡ f.behind = piece (n + 1) text ∙ ap₂ (λ (k : ℕ) (x : List ℕ). drop (k + 1) x) f.long f.whole ∙ drop-append-add f.line (c ∷ f.behind) 1 in
+      (subst (λ x. lacks c x ≡ true) (sym front) f.is_line, f.whole ∙ ap₂ (λ (x y : List ℕ). x ++ c ∷ y) (sym front) (sym back))
 
 -- ---- lines added at the end
 
@@ -110,20 +132,20 @@ module _ {R : Type 0} (accepts : R → List ℕ → R → Type 0) where
     runs = r.runs;
     counted = r.counted;
     more = some_left text at some;
-    refused = λ line behind is e next a. no_line (drop at text) line behind none e;
+    refused = λ line behind is e next a. no_line 10 (drop at text) line behind none e;
   }
 
   take_line : (line behind : List ℕ) → take (length line) (line ++ 10 ∷ behind) ≡ line
   take_line [] behind = refl
   take_line (b ∷ line) behind = ap (λ x. b ∷ x) (take_line line behind)
 
-  pub the_line : (rest : List ℕ) (n : ℕ) (f : First rest n) → take n rest ≡ f.line
+  pub the_line : (rest : List ℕ) (n : ℕ) (f : First 10 rest n) → take n rest ≡ f.line
   the_line rest n f = ap₂ (λ (k : ℕ) (x : List ℕ). take k x) f.long f.whole ∙ take_line f.line f.behind
 
   pub stops_refused : (text : List ℕ) (start now : R) (at number n : ℕ) (shown : List ℕ) → Reached text start now at number → at < length text → position is_feed (drop at text) ≡ Some n → shown ≡ take n (drop at text)
       → ((next : R) → ¬ accepts now shown next) → StopsAt accepts text start number
   stops_refused text start now at number n shown r some found is never =
-      let f = first (drop at text) n found in
+      let f = first 10 (drop at text) n found in
       record {
         lines = r.lines;
         rest = drop at text;
@@ -134,7 +156,7 @@ module _ {R : Type 0} (accepts : R → List ℕ → R → Type 0) where
         counted = r.counted;
         more = some_left text at some;
         refused = λ line behind clean e next a.
-            let same : line ≡ shown = one_line line f.line behind f.behind clean f.is_line (sym e ∙ f.whole) ∙ sym (is ∙ the_line (drop at text) n f) in
+            let same : line ≡ shown = (one_cut 10 line f.line behind f.behind clean f.is_line (sym e ∙ f.whole)).0 ∙ sym (is ∙ the_line (drop at text) n f) in
             never next (subst (λ l. accepts now l next) same a);
       }
 
@@ -154,7 +176,7 @@ module _ {R : Type 0} (accepts : R → List ℕ → R → Type 0) where
   pub read_on : (text : List ℕ) (start now after : R) (at number n : ℕ) (shown : List ℕ) → Reached text start now at number → position is_feed (drop at text) ≡ Some n → n < length text - at → shown ≡ take n (drop at text) → accepts now shown after
       → Reached text start after (at + (n + 1)) (number + 1)
   read_on text start now after at number n shown r found short is a =
-      let f = first (drop at text) n found in
+      let f = first 10 (drop at text) n found in
       let same : shown ≡ f.line = is ∙ the_line (drop at text) n f in
       record {
         lines = r.lines ++ f.line ∷ [];

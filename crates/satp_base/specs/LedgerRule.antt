@@ -60,24 +60,24 @@ Allows b Burn terms = Unit {0}
 Allows b Assign terms = Unit {0}
 Allows b Release terms = Unit {0}
 
--- the entry is one that lock and mint refuse
-abbrev pub Refuses : Book → LedgerOp → SessionId → Entry → Type 0
-Refuses b op session entry = (entry ≡ entry_of b.entries session) × (entry ≢ Absent) × (entry ≢ result_of op)
-
--- the answer to an operation, and the ledger behind it
-abbrev pub LedgerRule : Book → LedgerOp → SessionId → Terms → Answer → Book → Type 0
-LedgerRule b op session terms Done new =
-    ((entry_of b.entries session ≡ result_of op) × (new ≡ b))
-    ⊎ ((leads op (entry_of b.entries session) ≡ true) × Allows b op terms × (new ≡ moved b op session terms))
-LedgerRule b Lock session terms (Taken entry) new = Refuses b Lock session entry × (new ≡ b)
-LedgerRule b Lock session terms (NoFunds free) new =
-    (entry_of b.entries session ≡ Absent) × (free ≡ free_of b terms.asset terms.originator) × (free < terms.amount.number) × (new ≡ b)
-LedgerRule b Mint session terms (Taken entry) new = Refuses b Mint session entry × (new ≡ b)
-LedgerRule b Mint session terms UnknownAsset new = (entry_of b.entries session ≡ Absent) × (cap_of b.genesis terms.asset ≡ None) × (new ≡ b)
-LedgerRule b Mint session terms (Capped total) new =
-    (entry_of b.entries session ≡ Absent) × (total ≡ total_of b terms.asset)
+-- the answer to an operation on an entry, and the ledger behind it
+abbrev pub RuleOn : Book → Entry → LedgerOp → SessionId → Terms → Answer → Book → Type 0
+RuleOn b entry op session terms Done new =
+    ((entry ≡ result_of op) × (new ≡ b))
+    ⊎ ((leads op entry ≡ true) × Allows b op terms × (new ≡ moved b op session terms))
+RuleOn b entry Lock session terms (Taken shown) new = (entry ≢ Absent) × (entry ≢ Locked) × (shown ≡ entry) × (new ≡ b)
+RuleOn b entry Lock session terms (NoFunds free) new =
+    (entry ≡ Absent) × (free ≡ free_of b terms.asset terms.originator) × (free < terms.amount.number) × (new ≡ b)
+RuleOn b entry Mint session terms (Taken shown) new = (entry ≢ Absent) × (entry ≢ Minted) × (shown ≡ entry) × (new ≡ b)
+RuleOn b entry Mint session terms UnknownAsset new = (entry ≡ Absent) × (cap_of b.genesis terms.asset ≡ None) × (new ≡ b)
+RuleOn b entry Mint session terms (Capped total) new =
+    (entry ≡ Absent) × (total ≡ total_of b terms.asset)
     × ((cap : ℕ) × (cap_of b.genesis terms.asset ≡ Some cap) × (cap < total + terms.amount.number)) × (new ≡ b)
-LedgerRule b _ session terms _ new = ⊥
+RuleOn b entry _ session terms _ new = ⊥
+
+-- the answer to an operation on a session, and the ledger behind it
+abbrev pub LedgerRule : Book → LedgerOp → SessionId → Terms → Answer → Book → Type 0
+LedgerRule b op session terms answer new = RuleOn b (entry_of b.entries session) op session terms answer new
 
 -- the operation isn't one of those that may be asked of every entry, and no line has it
 abbrev pub is_always_answered : LedgerOp → Bool

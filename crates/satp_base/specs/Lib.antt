@@ -28,3 +28,4 @@ pub mod Chains
 pub mod Lines
 pub mod Stops
 pub mod Wires
+pub mod GenesisText

@@ -9,9 +9,13 @@ abbrev pub lines_text : List (List ℕ) → List ℕ
 lines_text [] = []
 lines_text (line ∷ lines) = line ++ 10 ∷ lines_text lines
 
+-- the byte doesn't stand in the text
+abbrev pub lacks : ℕ → List ℕ → Bool
+lacks byte text = list_all (λ b. not (b == byte)) text
+
 -- no line feed stands in the line
 abbrev pub is_line : List ℕ → Bool
-is_line line = list_all (λ b. not (b == 10)) line
+is_line line = lacks 10 line
 
 abbrev pub are_lines : List (List ℕ) → Bool
 are_lines lines = list_all is_line lines

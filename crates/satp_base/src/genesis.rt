@@ -1,9 +1,14 @@
-ghost use Rattle.std.specs.Prelude.{◌≡◌, ◌≤◌, length, option_map};
+ghost use Rattle.std.specs.Prelude.{◌≡◌, ◌≤◌, length, option_map, IfSome, Some};
 ghost use Rattle.satp_base.specs.Founding.{amount_number, cap_among, equal_names, held_among, most_holds};
+ghost use Rattle.satp_base.specs.GenesisText.{hold_text, line_text, part_text};
+ghost use Rattle.satp_base.specs.declared.genesis.Line.{Line};
+ghost use Rattle.satp_base.specs.declared.amount.Amount.{Amount};
+ghost use Rattle.satp_base.specs.declared.genesis.Hold.{Hold};
+ghost use Rattle.satp_base.specs.declared.name.Name.{Name};
 
 use crate::amount::Amount;
-use crate::ledger::{LedgerKind, LedgerOp};
-use crate::lines::AddFault;
+use crate::fields::cut_field;
+use crate::lines::{AddFault, LineReader, LinesFault, read_lines};
 use crate::name::Name;
 use std::alloc::Global;
 use std::marker::Model;
@@ -23,6 +28,9 @@ pub struct Hold {
     pub owner: Name,
     pub amount: Amount,
 }
+
+/// Why a text is no genesis.
+pub type GenesisFault = LinesFault;
 
 /// The assets and first holdings of a ledger, in order.
 #[derive(Drop)]
@@ -74,8 +82,67 @@ fn held_in(holds: &[Hold], asset: Name) -> u64
     sum
 }
 
+/// Reads `<name> <amount>`.
+fn read_part(text: &[u8]) -> Option<(Name, Amount)>
+    ensures read { IfSome result (λ part. text.now ≡ part_text part) }
+    ensures complete { (part : Name × Amount) → text.now ≡ part_text part → result ≡ Some part }
+{
+    let (name, Some(amount)) = cut_field(text) else {
+        return None;
+    };
+    let (Ok(name), Ok(amount)) = (Name::read(name), Amount::read(amount)) else {
+        return None;
+    };
+    Some((name, amount))
+}
+
+/// Reads `<asset> <owner> <amount>`.
+fn read_hold(text: &[u8]) -> Option<Hold>
+    ensures read { IfSome result (λ hold. text.now ≡ hold_text hold) }
+    ensures complete { (hold : Hold) → text.now ≡ hold_text hold → result ≡ Some hold }
+{
+    let (asset, Some(rest)) = cut_field(text) else {
+        return None;
+    };
+    let (Ok(asset), Some((owner, amount))) = (Name::read(asset), read_part(rest)) else {
+        return None;
+    };
+    Some(Hold {
+        asset,
+        owner,
+        amount,
+    })
+}
+
+/// What a line adds.
+enum Line {
+    Asset(Name, Amount),
+    Hold(Hold),
+}
+
+/// Reads a line.
+fn read_line(line: &[u8]) -> Option<Line>
+    ensures read { IfSome result (λ parsed. line.now ≡ line_text parsed) }
+    ensures complete { (parsed : Line) → line.now ≡ line_text parsed → result ≡ Some parsed }
+{
+    let (kind, Some(text)) = cut_field(line) else {
+        return None;
+    };
+    if kind == b"asset".as_slice() {
+        let (name, cap) = read_part(text)?;
+        return Some(Line::Asset(name, cap));
+    }
+    if kind == b"hold".as_slice() {
+        let hold = read_hold(text)?;
+        return Some(Line::Hold(hold));
+    }
+    None
+}
+
 impl Genesis {
-    ghost use Rattle.std.specs.Prelude.{◌≡◌, [], Err, OnOk, OnErr, slice_get};
+    ghost use Rattle.std.specs.Prelude.{◌≡◌, [], Err, OnOk, OnErr, MatchResult, slice_get};
+    ghost use Rattle.satp_base.specs.Lines.{Fails, IsLines};
+    ghost use Rattle.satp_base.specs.GenesisText.{AcceptsLine, most_bytes, nothing};
     ghost use Rattle.satp_base.specs.Founding.{Founding};
     ghost use Rattle.satp_base.specs.Genesis.{IsGenesis, AddsAsset, AddsHold, asset_pair, hold_triple};
 
@@ -84,6 +151,9 @@ impl Genesis {
 
     /// The most holdings of a genesis.
     pub const HOLDS: usize = 256;
+
+    /// The most bytes of a genesis's text.
+    pub const BYTES: usize = 65_536;
 
     /// No asset and no holding. It takes no memory.
     pub fn new(alloc: Global) -> Genesis
@@ -136,6 +206,21 @@ impl Genesis {
         }
     }
 
+    /// Reads lines `asset <name> <cap>` and `hold <asset> <owner> <amount>`, whose fields are parted by one space.
+    ///
+    /// An asset's name stands once; a holding's asset stands above it, and the sum of an asset's holdings is at most its cap.
+    /// At most 16 assets, 256 holdings and 65,536 bytes. The empty text is a genesis without assets.
+    /// `Long` comes for more bytes, `Line` for the first line that is refused, an open last line too.
+    pub fn read(alloc: Global, text: &[u8]) -> Result<Genesis, GenesisFault>
+        ensures { MatchResult result
+            (λ genesis. IsLines AcceptsLine most_bytes text.now nothing genesis)
+            (λ fault. Fails AcceptsLine most_bytes text.now nothing fault) }
+    {
+        let mut genesis = Genesis::new(alloc);
+        read_lines(&mut genesis, text, Genesis::BYTES)?;
+        Ok(genesis)
+    }
+
     /// An asset and its cap, by its place from 0.
     pub fn asset_at(&self, index: usize) -> Option<(Name, Amount)>
         ensures asset { result ≡ option_map asset_pair (slice_get self.now.assets index) }
@@ -152,5 +237,19 @@ impl Genesis {
         self.holds
             .get(index)
             .map(|hold| (hold.asset, hold.owner, hold.amount))
+    }
+}
+
+impl LineReader for Genesis {
+    ghost use Rattle.satp_base.specs.GenesisText.{AcceptsLine};
+
+    ghost accepts = { AcceptsLine };
+
+    fn add(&mut self, line: &[u8]) -> Result<(), AddFault> {
+        match read_line(line) {
+            Some(Line::Asset(name, cap)) => self.add_asset(name, cap),
+            Some(Line::Hold(hold)) => self.add_hold(hold.asset, hold.owner, hold.amount),
+            None => Err(AddFault::Refused),
+        }
     }
 }

@@ -8,6 +8,7 @@ mod canonical;
 mod device;
 mod digits;
 mod fault;
+mod fields;
 mod form;
 mod genesis;
 mod head;
@@ -37,7 +38,8 @@ pub use canonical::{law_ascii, law_one_message};
 pub use device::{Device, Disk, DiskFault};
 pub use digits::read_number;
 pub use fault::{AmountFault, NameFault, SessionFault};
-pub use genesis::{Asset, Genesis, Hold};
+pub use fields::cut_field;
+pub use genesis::{Asset, Genesis, GenesisFault, Hold};
 pub use head::Head;
 pub use laws::{law_append, law_open, law_readings, law_stops};
 pub use ledger::{

@@ -1,11 +1,7 @@
 use Rattle.std.proofs.Common.{◌≡◌, ◌∙◌, ◌+◌, ◌-◌, ◌<◌, ap, sym, arith, length, length-drop, take, drop, ℕ, List, Err, Option, ◌==◌}
 use Rattle.std.specs.Prelude.{position}
-use Rattle.std.proofs.Math.Seq.{take-length}
-use Rattle.satp_base.proofs.LineLemmas.{read_on, stops_open, stops_refused}
+use Rattle.satp_base.proofs.LineLemmas.{piece, read_on, stops_open, stops_refused}
 use Rattle.satp_base.proofs.lines.read_lines.Goals as goal
-
-piece : (k : ℕ) (bytes : List ℕ) → take (length bytes - k) (drop k bytes) ≡ drop k bytes
-piece k bytes = rw (← length-drop k bytes) (take-length (drop k bytes))
 
 found : (text : List ℕ) (at : ℕ) (o : Option ℕ) → o ≡ position (λ b. b == 10) (take (length text - at) (drop at text)) → position (λ b. b == 10) (drop at text) ≡ o
 found text at o e = ap (position (λ b. b == 10)) (sym (piece at text)) ∙ sym e

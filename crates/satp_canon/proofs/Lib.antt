@@ -1,2 +1,4 @@
 pub mod Links
 pub mod Joined
+pub mod Found
+pub mod Compact

@@ -60,11 +60,17 @@ member_fault names d = option_map (λ text. fault.Member (member_named text)) (l
 -- ---- forms of values
 
 -- a whole number as `serde_json` reads it, without a fraction, exponent or sign
-abbrev pub holds_number : (ℕ → Bool) → Data → Bool
-holds_number test d = option_map_or test (option_and_then as_u64 (as_number d)) false
+abbrev pub number_in : Option Data → Option ℕ
+number_in found = option_and_then as_u64 (option_and_then as_number found)
 
-abbrev pub holds_text : (List ℕ → Bool) → Data → Bool
-holds_text test d = option_map_or test (as_str d) false
+abbrev pub text_in : Option Data → Option (List ℕ)
+text_in found = option_and_then as_str found
+
+abbrev pub holds_number : (ℕ → Bool) → Option Data → Bool
+holds_number test found = option_map_or test (number_in found) false
+
+abbrev pub holds_text : (List ℕ → Bool) → Option Data → Bool
+holds_text test found = option_map_or test (text_in found) false
 
 abbrev pub is_within : ℕ → ℕ → ℕ → Bool
 is_within low high n = nat_le low n && nat_le n high
@@ -76,52 +82,56 @@ is_symbol b = list_any (λ s. s == b) base64url
 abbrev pub is_link : List ℕ → Bool
 is_link text = (length text == 43) && list_all is_symbol text && list_any (λ s. s == slice_index text 42) (codes "AEIMQUYcgkosw048")
 
-abbrev pub are_words : Items → Bool
-are_words no_items = true
-are_words (item d ds) = holds_text is_entry d && are_words ds
-
-abbrev pub count : Items → ℕ
-count no_items = 0
-count (item d ds) = count ds + 1
+abbrev pub item_list : Items → List Data
+item_list no_items = []
+item_list (item d ds) = d ∷ item_list ds
 
 -- at most two entries
-abbrev pub holds_entries : Data → Bool
-holds_entries d = option_map_or (λ ds. nat_le (count ds) 2 && are_words ds) (as_array d) false
+abbrev pub are_entries : List Data → Bool
+are_entries ds = nat_le (length ds) 2 && list_all (λ d. holds_text is_entry (Some d)) ds
 
--- the value of this member has the type and form that its name wants; `terms` are looked into apart
-abbrev pub has_form : MemberName → Data → Bool
-has_form name.Amount d = holds_number (is_within 1 greatest_amount) d
-has_form name.Asset d = holds_text (λ text. is_none (name_fault text)) d
-has_form name.Beneficiary d = holds_text (λ text. is_none (name_fault text)) d
-has_form name.Entries d = holds_entries d
-has_form name.Kind d = holds_text (λ text. is_some (kind_named text)) d
-has_form name.Last d = holds_text is_link d
-has_form name.Length d = holds_number (is_within 0 11) d
-has_form name.Originator d = holds_text (λ text. is_none (name_fault text)) d
-has_form name.Previous d = holds_text is_link d
-has_form name.Reason d = holds_text (λ text. is_some (reason_named text)) d
-has_form name.Receiver d = holds_text (λ text. is_none (name_fault text)) d
-has_form name.Sender d = holds_text (λ text. is_none (name_fault text)) d
-has_form name.Sequence d = holds_number (is_within 1 11) d
-has_form name.Session d = holds_text (λ text. is_none (session_fault text)) d
-has_form name.Terms d = is_some (as_object d)
-has_form name.Version d = holds_number (is_within 1 1) d
-has_form name.Unknown d = false
+abbrev pub holds_entries : Option Data → Bool
+holds_entries found = option_map_or (λ ds. are_entries (item_list ds)) (option_and_then as_array found) false
 
-abbrev pub form_fault : MemberName → Data → Option CanonFault
-form_fault n d = if option_map_or (has_form n) (get (member_text n) d) false then None else Some (fault.Value n)
+abbrev pub is_name : List ℕ → Bool
+is_name text = is_none (name_fault text)
 
--- the terms are an object, whose names are tested and then its values
-abbrev pub inner_fault : Option Data → Option CanonFault
-inner_fault None = None
-inner_fault (Some d) = first_of (member_fault terms_row d ∷ map (λ n. form_fault n d) terms_row)
+-- what stands at this name has the type and form that the name wants; what stands in terms is tested apart
+abbrev pub has_form : MemberName → Option Data → Bool
+has_form name.Amount found = holds_number (is_within 1 greatest_amount) found
+has_form name.Asset found = holds_text is_name found
+has_form name.Beneficiary found = holds_text is_name found
+has_form name.Entries found = holds_entries found
+has_form name.Kind found = holds_text (λ text. is_some (kind_named text)) found
+has_form name.Last found = holds_text is_link found
+has_form name.Length found = holds_number (is_within 0 11) found
+has_form name.Originator found = holds_text is_name found
+has_form name.Previous found = holds_text is_link found
+has_form name.Reason found = holds_text (λ text. is_some (reason_named text)) found
+has_form name.Receiver found = holds_text is_name found
+has_form name.Sender found = holds_text is_name found
+has_form name.Sequence found = holds_number (is_within 1 11) found
+has_form name.Session found = holds_text (λ text. is_none (session_fault text)) found
+has_form name.Terms found = is_some (option_and_then as_object found)
+has_form name.Version found = holds_number (is_within 1 1) found
+has_form name.Unknown found = false
 
-abbrev pub value_faults : MemberName → Data → List (Option CanonFault)
-value_faults name.Terms d = form_fault name.Terms d ∷ inner_fault (get (codes "terms") d) ∷ []
-value_faults n d = form_fault n d ∷ []
+abbrev pub fault_unless : Bool → MemberName → Option CanonFault
+fault_unless good n = if good then None else Some (fault.Value n)
+
+abbrev pub form_fault : Data → MemberName → Option CanonFault
+form_fault d n = fault_unless (has_form n (get (member_text n) d)) n
+
+-- the names in the terms are tested, and then their values
+abbrev pub terms_fault : Data → Option CanonFault
+terms_fault d = first_of (member_fault terms_row d ∷ first_of (map (form_fault d) terms_row) ∷ [])
+
+abbrev pub value_faults : Data → MemberName → List (Option CanonFault)
+value_faults d name.Terms = form_fault d name.Terms ∷ option_and_then terms_fault (get (codes "terms") d) ∷ []
+value_faults d n = form_fault d n ∷ []
 
 abbrev pub values_fault : List MemberName → Data → Option CanonFault
-values_fault names d = first_of (flat_map (λ n. value_faults n d) names)
+values_fault names d = first_of (flat_map (value_faults d) names)
 
 -- ---- the value
 

@@ -1,3 +1,4 @@
 pub mod Commas
 pub mod FirstFault
 pub mod Reads
+pub mod Proposals

@@ -3,10 +3,12 @@
 
 mod fault;
 mod link;
+mod reader;
 mod row;
 mod writer;
 
 pub use fault::CanonFault;
 pub use link::{link_of, link_read, link_text};
+pub use reader::read;
 pub use satp_base::MemberName;
 pub use writer::write;

@@ -1,7 +1,7 @@
 use Rattle.std.proofs.Common.{◌∙◌, ℕ, List, [], ◌∷◌, ◌++◌, ap, map, sym}
 use Rattle.std.specs.List.{join_with_byte}
 use Rattle.std.proofs.lemmas.Simd.{map-map}
-use Rattle.satp_base.specs.Canonical.{Member, canonical, kind_of, member, message_member, row}
+use Rattle.satp_base.specs.Canonical.{canonical, kind_of, member, message_member, row}
 use Rattle.satp_canon.proofs.writer.write.Goals as goal
 
 pub returns : goal.returns

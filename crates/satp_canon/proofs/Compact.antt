@@ -32,7 +32,6 @@ use Rattle.satp_base.specs.Canonical.{canonical, link_text, IsText}
 use Rattle.satp_base.specs.Forms.{IsLink, IsPlace}
 use Rattle.satp_base.proofs.AsciiText.{ascii_text, is_ascii}
 use Rattle.satp_base.proofs.Plain.{is_plain, plain_link, plain_name, plain_session}
-use Rattle.satp_base.specs.Names.{is_name_byte, is_lower, is_digit}
 use Rattle.satp_base.specs.Values.{name_text, session_text}
 use Rattle.satp_base.specs.declared.name.Name.{Name}
 use Rattle.satp_base.specs.declared.session.SessionId.{SessionId}

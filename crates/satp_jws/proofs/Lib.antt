@@ -1,0 +1,4 @@
+mod BlockLemmas
+mod HeaderLemmas
+mod PartLemmas
+mod VerifyLemmas

@@ -5,8 +5,18 @@
 //! reject; after that only the origin decides.
 #![tactic(auto)]
 
+ghost use Rattle.satp_recipient.specs.Laws.{LawTales};
+
 mod choice;
 mod table;
+#[cfg(test)]
+mod tests;
 
 pub use choice::{abort, after, allows};
 pub use table::next;
+
+/// Behind any list of records that the rule allows the chain's kinds are a tale, and a further record that it allows
+/// keeps them one. The law makes no call.
+pub fn law_tales()
+    ensures { LawTales }
+{}

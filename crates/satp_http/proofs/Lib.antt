@@ -1,0 +1,13 @@
+pub mod WindowLemmas
+pub mod ValueLemmas
+pub mod ListTests
+pub mod TextLemmas
+pub mod LineLemmas
+pub mod HeadParts
+pub mod CountLemmas
+pub mod ReadingLemmas
+pub mod RunLemmas
+pub mod FoundLemmas
+pub mod SentLemmas
+pub mod TakeLemmas
+pub mod WrittenLemmas

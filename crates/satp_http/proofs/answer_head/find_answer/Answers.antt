@@ -1,0 +1,52 @@
+use Rattle.std.proofs.Common.{rules, drop, ◌≡◌, ◌≤◌, ◌<◌, ℕ, List, length, sym, subst, ap, ◌∙◌, arith, refl, inl, inr}
+use Rattle.satp_http.specs.Heads.{server, Reads, HasNone, NeverHas, HasOver, MayBecome}
+use Rattle.satp_http.specs.HttpText.{IsPart, window}
+use Rattle.satp_http.specs.Table.{AnswerParts}
+use Rattle.satp_http.specs.Found.{FramesAnswer, IsAnswerFault, has_many_lines}
+use Rattle.satp_http.proofs.WindowLemmas.{take_whole}
+use Rattle.satp_http.proofs.FoundLemmas.{exceeds, head_at, bad_head, same_answer_parts, few_fields, many_fields}
+use Rattle.satp_http.proofs.CountLemmas.{many_over, few_not_over}
+use Rattle.satp_http.proofs.answer_head.find_answer.Goals as goal
+
+pub returns-in-Ok : goal.returns-in-Ok
+returns-in-Ok c =
+    let found = rw c.in-Ok-Complete.field-0-is at c.in-Ok-Complete.ensures.complete in
+    let head = found.0 in
+    let reads = subst (λ (w : List ℕ). Reads server w head (drop c.in-Ok-Complete.start w)) c.window-window.ensures found.1.reads in
+    let same = same_answer_parts c.parse.new.self head c.unwrap.result c.unwrap-in-Ok-Complete.result found.1.code found.1.version c.unwrap.ensures c.unwrap-in-Ok-Complete.ensures found.1.fields in
+    let at = head_at server c.args.held.now head c.in-Ok-Complete.start reads found.1.len_is (few_fields c.parse.new.self.headers.now head.fields found.1.fields c.if-response-gt-MOST_LINES.false) in
+    (head, at, subst (λ (p : AnswerParts). FramesAnswer c.args.interim p c.in-Ok.framing) same c.in-Ok.ensures)
+
+pub returns-in-Err-framing_of : goal.returns-in-Err-framing_of
+returns-in-Err-framing_of c =
+    let found = rw c.in-Ok-Complete.field-0-is at c.in-Ok-Complete.ensures.complete in
+    let head = found.0 in
+    let reads = subst (λ (w : List ℕ). Reads server w head (drop c.in-Ok-Complete.start w)) c.window-window.ensures found.1.reads in
+    let same = same_answer_parts c.parse.new.self head c.unwrap.result c.unwrap-in-Ok-Complete.result found.1.code found.1.version c.unwrap.ensures c.unwrap-in-Ok-Complete.ensures found.1.fields in
+    let at = head_at server c.args.held.now head c.in-Ok-Complete.start reads found.1.len_is (few_fields c.parse.new.self.headers.now head.fields found.1.fields c.if-response-gt-MOST_LINES.false) in
+    inr (bad_head server c.args.interim c.args.held.now head c.in-Ok-Complete.start c.in-Err-framing_of.fault at (subst (λ (p : AnswerParts). IsAnswerFault c.args.interim p c.in-Err-framing_of.fault) same c.in-Err-framing_of.ensures))
+
+pub returns-then-response-gt-MOST_LINES : goal.returns-then-response-gt-MOST_LINES
+returns-then-response-gt-MOST_LINES c =
+    let found = rw c.in-Ok-Complete.field-0-is at c.in-Ok-Complete.ensures.complete in
+    let head = found.0 in
+    inl (subst (HasOver server 64) c.window-window.ensures (exceeds server c.window-window.result.now head _ found.1.reads (many_fields c.parse.new.self.headers.now head.fields found.1.fields c.if-response-gt-MOST_LINES.true)))
+
+pub returns-in-Err : goal.returns-in-Err
+returns-in-Err c = inl (subst (NeverHas server) c.window-window.ensures (c.in-Err.ensures.invalid (search rules)))
+
+pub returns-then-has_many_lines : goal.returns-then-has_many_lines
+returns-then-has_many_lines c =
+    let begun : MayBecome server c.window-window.result.now = inl (rw c.in-Ok-Partial.field-0-is at c.in-Ok-Partial.ensures.unfinished) in
+    let none = rw c.in-Ok-Partial.field-0-is at c.in-Ok-Partial.ensures.partial in
+    inl (subst (HasOver server 64) c.window-window.ensures (many_over server c.window-window.result.now begun none (sym c.has_many_lines.ensures ∙ c.if-has_many_lines.true)))
+
+pub returns-else-held-ge-LONGEST : goal.returns-else-held-ge-LONGEST
+returns-else-held-ge-LONGEST c =
+    let same : c.window-window.result.now ≡ c.args.held.now = c.window-window.ensures ∙ take_whole 8192 c.args.held.now (omega arith) in
+    record {
+      short = omega arith;
+      none = subst (HasNone server) same (rw c.in-Ok-Partial.field-0-is at c.in-Ok-Partial.ensures.partial);
+      few = λ over. few_not_over server c.window-window.result.now (sym c.has_many_lines.ensures ∙ c.if-has_many_lines.false) (subst (HasOver server 64) (sym same) over);
+      begun = subst (MayBecome server) same (inl (rw c.in-Ok-Partial.field-0-is at c.in-Ok-Partial.ensures.unfinished));
+    }

@@ -1,0 +1,26 @@
+use Rattle.std.proofs.Common.{◌≡◌, ◌<◌, ◌+◌, get_or, rules, arith, true, sym}
+use Rattle.std.specs.Char.{is_ascii_digit, digit_value}
+use Rattle.std.proofs.lemmas.Bool.Decides.{nat_tests}
+use Rattle.std.proofs.lemmas.Int.Digits.{digits_value_more}
+use Rattle.satp_http.proofs.ListTests.{list_all_more}
+use Rattle.satp_http.proofs.ValueLemmas.{digit_fits}
+use Rattle.satp_http.proofs.lines.length_of.Goals as goal
+
+pub overflow_mul-number : goal.overflow_mul-number
+overflow_mul-number c = omega (arith, digit_fits c.loop-digit.number 0 c.loop-digit.digit-index c.loop-digit.invariant.bound (omega arith) (omega arith))
+
+pub overflow_add-number : goal.overflow_add-number
+overflow_add-number c =
+    let small : c.from.result < 10 = grind (arith, nat_tests) in
+    omega (arith, digit_fits c.loop-digit.number c.from.result c.loop-digit.digit-index c.loop-digit.invariant.bound (omega arith) small)
+
+pub loop-digit-preserved : goal.loop-digit-preserved
+loop-digit-preserved c =
+    let small : c.from.result < 10 = grind (arith, nat_tests) in
+    let digit : digit_value (get_or c.args.value.now c.loop-digit.digit-index 0) ≡ c.from.result = grind (arith, nat_tests) in
+    record {
+      value = omega (arith, digits_value_more 10 c.args.value.now _ c.loop-digit-test.true, c.loop-digit.invariant.value);
+      digits = list_all_more is_ascii_digit _ _ 0 c.loop-digit-test.true c.loop-digit.invariant.digits (sym c.if-not-is_ascii_digit.ensures.value);
+      short = c.loop-digit.invariant.short;
+      bound = (digit_fits c.loop-digit.number c.from.result c.loop-digit.digit-index c.loop-digit.invariant.bound (omega arith) small).0;
+    }

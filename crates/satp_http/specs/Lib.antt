@@ -1,0 +1,11 @@
+pub mod Lines
+pub mod LineLists
+pub mod Agreeing
+pub mod Heads
+pub mod Table
+pub mod HttpText
+pub mod Feeds
+pub mod Found
+pub mod Runs
+pub mod Laws
+pub mod Written

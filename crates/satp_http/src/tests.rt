@@ -1,6 +1,596 @@
 use super::*;
-use satp_base::Address;
+use satp_base::{Address, Memory, Text};
+use std::alloc::Global;
 use std::test::Fail;
+
+/// Feeds a piece, and counts the requests that are whole then.
+fn feed(alloc: Global, requests: &mut Requests, piece: &[u8]) -> Result<usize, HttpFault> {
+    let _ = requests.feed(piece);
+    for count in 0..4 {
+        match requests.take(alloc)? {
+            Taken::Request(_) => {}
+            _ => return Ok(count),
+        }
+    }
+    Ok(4)
+}
+
+/// How many requests come in two pieces, or their fault.
+fn cut(alloc: Global, bytes: &[u8], at: usize) -> Result<usize, HttpFault> {
+    let Ok(mut requests) = Requests::new(alloc) else {
+        return Err(HttpFault::Memory);
+    };
+    let at = at.min(bytes.len());
+    let before = feed(alloc, &mut requests, &bytes[..at])?;
+    let after = feed(alloc, &mut requests, &bytes[at..])?;
+    Ok(before.wrapping_add(after))
+}
+
+/// Bytes, and how many requests or answers they are, or their fault.
+type Row = (&'static [u8], Result<usize, HttpFault>);
+
+/// The first row that gives something else, cut after one of its bytes or whole.
+fn first_other_request(alloc: Global, rows: &[Row]) -> Option<&'static [u8]> {
+    for (bytes, wanted) in rows {
+        for at in 0..bytes.len() {
+            if cut(alloc, bytes, at) != *wanted {
+                return Some(bytes);
+            }
+        }
+    }
+    None
+}
+
+/// How many requests come byte for byte, or their fault.
+fn byte_for_byte(alloc: Global, bytes: &[u8]) -> Result<usize, HttpFault> {
+    let Ok(mut requests) = Requests::new(alloc) else {
+        return Err(HttpFault::Memory);
+    };
+    let mut count: usize = 0;
+    for piece in bytes.chunks(1) {
+        count = count.wrapping_add(feed(alloc, &mut requests, piece)?);
+    }
+    Ok(count)
+}
+
+/// Feeds a piece, and counts the answers that are whole then.
+fn hear(alloc: Global, responses: &mut Responses, piece: &[u8]) -> Result<usize, HttpFault> {
+    let _ = responses.feed(piece);
+    for count in 0..4 {
+        match responses.take(alloc)? {
+            Some(_) => {}
+            None => return Ok(count),
+        }
+    }
+    Ok(4)
+}
+
+/// How many answers come in two pieces, or their fault.
+fn hear_cut(alloc: Global, bytes: &[u8], at: usize) -> Result<usize, HttpFault> {
+    let Ok(mut responses) = Responses::new(alloc) else {
+        return Err(HttpFault::Memory);
+    };
+    let at = at.min(bytes.len());
+    let before = hear(alloc, &mut responses, &bytes[..at])?;
+    let after = hear(alloc, &mut responses, &bytes[at..])?;
+    Ok(before.wrapping_add(after))
+}
+
+/// The first row that gives something else, cut after one of its bytes or whole.
+fn first_other_answer(alloc: Global, rows: &[Row]) -> Option<&'static [u8]> {
+    for (bytes, wanted) in rows {
+        for at in 0..bytes.len() {
+            if hear_cut(alloc, bytes, at) != *wanted {
+                return Some(bytes);
+            }
+        }
+    }
+    None
+}
+
+const REQUESTS: [Row; 84] = [
+    (
+        b"POST /satp HTTP/1.1\r\nHost: 127.0.0.1:7002\r\nUser-Agent: curl/8.5.0\r\nAccept: */*\r\nContent-Type: application/jose\r\nContent-Length: 2\r\n\r\n{}",
+        Ok(1),
+    ),
+    (
+        b"POST /satp HTTP/1.1\r\nHost: a\r\nContent-Length: 2\r\n\r\n{}POST /satp HTTP/1.1\r\nHost: a\r\nContent-Length: 2\r\n\r\n{}",
+        Ok(2),
+    ),
+    (
+        b"POST /satp HTTP/1.1\r\nHost: a\r\nContent-Length: 2\r\n\r\n{}\0",
+        Err(HttpFault::Head),
+    ),
+    (
+        b"GET /satp HTTP/1.1\r\nHost: a\r\nContent-Length: 2\r\n\r\n{}",
+        Err(HttpFault::Method),
+    ),
+    (
+        b"post /satp HTTP/1.1\r\nHost: a\r\nContent-Length: 2\r\n\r\n{}",
+        Err(HttpFault::Method),
+    ),
+    (
+        b"PUT /satp HTTP/1.1\r\nHost: a\r\nContent-Length: 2\r\n\r\n{}",
+        Err(HttpFault::Method),
+    ),
+    (
+        b"POST1 /satp HTTP/1.1\r\nHost: a\r\nContent-Length: 2\r\n\r\n{}",
+        Err(HttpFault::Method),
+    ),
+    (
+        b"POST / HTTP/1.1\r\nHost: a\r\nContent-Length: 2\r\n\r\n{}",
+        Err(HttpFault::Target),
+    ),
+    (
+        b"POST /satp/ HTTP/1.1\r\nHost: a\r\nContent-Length: 2\r\n\r\n{}",
+        Err(HttpFault::Target),
+    ),
+    (
+        b"POST /satp?a=1 HTTP/1.1\r\nHost: a\r\nContent-Length: 2\r\n\r\n{}",
+        Err(HttpFault::Target),
+    ),
+    (
+        b"POST http://a/satp HTTP/1.1\r\nHost: a\r\nContent-Length: 2\r\n\r\n{}",
+        Err(HttpFault::Target),
+    ),
+    (
+        b"POST * HTTP/1.1\r\nHost: a\r\nContent-Length: 2\r\n\r\n{}",
+        Err(HttpFault::Target),
+    ),
+    (
+        b"POST /SATP HTTP/1.1\r\nHost: a\r\nContent-Length: 2\r\n\r\n{}",
+        Err(HttpFault::Target),
+    ),
+    (
+        b"POST /satp HTTP/1.0\r\nHost: a\r\nContent-Length: 2\r\n\r\n{}",
+        Err(HttpFault::Version),
+    ),
+    (
+        b"POST /satp HTTP/2.0\r\nHost: a\r\nContent-Length: 2\r\n\r\n{}",
+        Err(HttpFault::Head),
+    ),
+    (
+        b"POST /satp HTTP/1.2\r\nHost: a\r\nContent-Length: 2\r\n\r\n{}",
+        Err(HttpFault::Head),
+    ),
+    (
+        b"POST /satp http/1.1\r\nHost: a\r\nContent-Length: 2\r\n\r\n{}",
+        Err(HttpFault::Head),
+    ),
+    (
+        b"POST /satp HTTP/1.1 \r\nHost: a\r\nContent-Length: 2\r\n\r\n{}",
+        Err(HttpFault::Head),
+    ),
+    (
+        b"POST /satp HTTP/11\r\nHost: a\r\nContent-Length: 2\r\n\r\n{}",
+        Err(HttpFault::Head),
+    ),
+    (
+        b"POST /satp\r\nHost: a\r\nContent-Length: 2\r\n\r\n{}",
+        Err(HttpFault::Head),
+    ),
+    (
+        b"POST  /satp HTTP/1.1\r\nHost: a\r\nContent-Length: 2\r\n\r\n{}",
+        Err(HttpFault::Head),
+    ),
+    (
+        b"POST\t/satp HTTP/1.1\r\nHost: a\r\nContent-Length: 2\r\n\r\n{}",
+        Err(HttpFault::Head),
+    ),
+    (
+        b" POST /satp HTTP/1.1\r\nHost: a\r\nContent-Length: 2\r\n\r\n{}",
+        Err(HttpFault::Head),
+    ),
+    (
+        b"\rPOST /satp HTTP/1.1\r\nHost: a\r\nContent-Length: 2\r\n\r\n{}",
+        Err(HttpFault::Head),
+    ),
+    (
+        b"POST /satp\0 HTTP/1.1\r\nHost: a\r\nContent-Length: 2\r\n\r\n{}",
+        Err(HttpFault::Head),
+    ),
+    (
+        b"P(ST /satp HTTP/1.1\r\nHost: a\r\nContent-Length: 2\r\n\r\n{}",
+        Err(HttpFault::Head),
+    ),
+    (
+        b"\r\n\nPOST /satp HTTP/1.1\r\nHost: a\r\nContent-Length: 2\r\n\r\n{}",
+        Ok(1),
+    ),
+    (
+        b"POST /satp HTTP/1.1\nHost: a\nContent-Length: 2\n\n{}",
+        Ok(1),
+    ),
+    (
+        b"POST /satp HTTP/1.1\r\nContent-Length: 2\r\n\r\n{}",
+        Err(HttpFault::NoHost),
+    ),
+    (
+        b"POST /satp HTTP/1.1\r\nHost: a\r\nhost: a\r\nContent-Length: 2\r\n\r\n{}",
+        Err(HttpFault::TwoHosts),
+    ),
+    (
+        b"POST /satp HTTP/1.1\r\nhOST: a\r\nContent-Length: 2\r\n\r\n{}",
+        Ok(1),
+    ),
+    (
+        b"POST /satp HTTP/1.1\r\nHost:\r\nContent-Length: 2\r\n\r\n{}",
+        Ok(1),
+    ),
+    (
+        b"POST /satp HTTP/1.1\r\nHost: a\r\nHost : a\r\nContent-Length: 2\r\n\r\n{}",
+        Err(HttpFault::Head),
+    ),
+    (
+        b"POST /satp HTTP/1.1\r\nHost: a\r\nHost: a\r\n b\r\nContent-Length: 2\r\n\r\n{}",
+        Err(HttpFault::Head),
+    ),
+    (
+        b"POST /satp HTTP/1.1\r\nHost: a\r\nHost: a\0\r\nContent-Length: 2\r\n\r\n{}",
+        Err(HttpFault::Head),
+    ),
+    (
+        b"POST /satp HTTP/1.1\r\nHost: a\r\nHost: a\rb\r\nContent-Length: 2\r\n\r\n{}",
+        Err(HttpFault::Head),
+    ),
+    (
+        b"POST /satp HTTP/1.1\r\nHost: a\r\nHost: a\x7f\r\nContent-Length: 2\r\n\r\n{}",
+        Err(HttpFault::Head),
+    ),
+    (
+        b"POST /satp HTTP/1.1\r\nHost: a\r\n: a\r\nContent-Length: 2\r\n\r\n{}",
+        Err(HttpFault::Head),
+    ),
+    (
+        b"POST /satp HTTP/1.1\r\nHost: a\r\nHost a\r\nContent-Length: 2\r\n\r\n{}",
+        Err(HttpFault::Head),
+    ),
+    (
+        b"POST /satp HTTP/1.1\r\nHost: a\r\nHo\x01st: a\r\nContent-Length: 2\r\n\r\n{}",
+        Err(HttpFault::Head),
+    ),
+    (
+        b"POST /satp HTTP/1.1\r\nHost: a\r\n Host: a\r\nContent-Length: 2\r\n\r\n{}",
+        Err(HttpFault::Head),
+    ),
+    (
+        b"POST /satp HTTP/1.1\r\nHost: a\r\nA: \xc3\xa9\tb\r\nContent-Length: 2\r\n\r\n{}",
+        Ok(1),
+    ),
+    (
+        b"POST /satp HTTP/1.1\r\nHost: a\r\nTransfer-Encoding: chunked\r\nContent-Length: 2\r\n\r\n{}",
+        Err(HttpFault::Chunked),
+    ),
+    (
+        b"POST /satp HTTP/1.1\r\nHost: a\r\ntransfer-encoding: identity\r\nContent-Length: 2\r\n\r\n{}",
+        Err(HttpFault::Chunked),
+    ),
+    (
+        b"POST /satp HTTP/1.1\r\nHost: a\r\nTRANSFER-ENCODING: gzip, chunked\r\nContent-Length: 2\r\n\r\n{}",
+        Err(HttpFault::Chunked),
+    ),
+    (
+        b"POST /satp HTTP/1.1\r\nHost: a\r\nTransfer-Encoding: chunked\r\n\r\n{}",
+        Err(HttpFault::Chunked),
+    ),
+    (
+        b"POST /satp HTTP/1.1\r\nHost: a\r\nContent-Encoding: gzip\r\nContent-Length: 2\r\n\r\n{}",
+        Err(HttpFault::Coding),
+    ),
+    (
+        b"POST /satp HTTP/1.1\r\nHost: a\r\nContent-Encoding: identity, gzip\r\nContent-Length: 2\r\n\r\n{}",
+        Err(HttpFault::Coding),
+    ),
+    (
+        b"POST /satp HTTP/1.1\r\nHost: a\r\nContent-Encoding:\r\nContent-Length: 2\r\n\r\n{}",
+        Err(HttpFault::Coding),
+    ),
+    (
+        b"POST /satp HTTP/1.1\r\nHost: a\r\nContent-Encoding: Identity\r\nContent-Length: 2\r\n\r\n{}",
+        Ok(1),
+    ),
+    (
+        b"POST /satp HTTP/1.1\r\nHost: a\r\nExpect: 100-Continue\r\nContent-Length: 2\r\n\r\n{}",
+        Ok(1),
+    ),
+    (
+        b"POST /satp HTTP/1.1\r\nHost: a\r\nExpect: 200-ok\r\nContent-Length: 2\r\n\r\n{}",
+        Err(HttpFault::Expect),
+    ),
+    (
+        b"POST /satp HTTP/1.1\r\nHost: a\r\nExpect: 100-continue, 100-continue\r\nContent-Length: 2\r\n\r\n{}",
+        Err(HttpFault::Expect),
+    ),
+    (
+        b"POST /satp HTTP/1.1\r\nHost: a\r\nExpect: 100-continue\r\nExpect: a\r\nContent-Length: 2\r\n\r\n{}",
+        Err(HttpFault::Expect),
+    ),
+    (
+        b"POST /satp HTTP/1.1\r\nHost: a\r\n\r\n{}",
+        Err(HttpFault::LengthMissing),
+    ),
+    (
+        b"POST /satp HTTP/1.1\r\nHost: a\r\nContent-Length: \r\n\r\n{}",
+        Err(HttpFault::LengthBad),
+    ),
+    (
+        b"POST /satp HTTP/1.1\r\nHost: a\r\nContent-Length: +2\r\n\r\n{}",
+        Err(HttpFault::LengthBad),
+    ),
+    (
+        b"POST /satp HTTP/1.1\r\nHost: a\r\nContent-Length: -2\r\n\r\n{}",
+        Err(HttpFault::LengthBad),
+    ),
+    (
+        b"POST /satp HTTP/1.1\r\nHost: a\r\nContent-Length: 2 2\r\n\r\n{}",
+        Err(HttpFault::LengthBad),
+    ),
+    (
+        b"POST /satp HTTP/1.1\r\nHost: a\r\nContent-Length: 2,2\r\n\r\n{}",
+        Err(HttpFault::LengthBad),
+    ),
+    (
+        b"POST /satp HTTP/1.1\r\nHost: a\r\nContent-Length: 2, 2\r\n\r\n{}",
+        Err(HttpFault::LengthBad),
+    ),
+    (
+        b"POST /satp HTTP/1.1\r\nHost: a\r\nContent-Length: 0x2\r\n\r\n{}",
+        Err(HttpFault::LengthBad),
+    ),
+    (
+        b"POST /satp HTTP/1.1\r\nHost: a\r\nContent-Length: 2.0\r\n\r\n{}",
+        Err(HttpFault::LengthBad),
+    ),
+    (
+        b"POST /satp HTTP/1.1\r\nHost: a\r\nContent-Length: 1e0\r\n\r\n{}",
+        Err(HttpFault::LengthBad),
+    ),
+    (
+        b"POST /satp HTTP/1.1\r\nHost: a\r\nContent-Length: 00000000000000000002\r\n\r\n{}",
+        Err(HttpFault::LengthBad),
+    ),
+    (
+        b"POST /satp HTTP/1.1\r\nHost: a\r\nContent-Length: 99999999999999999999\r\n\r\n{}",
+        Err(HttpFault::LengthBad),
+    ),
+    (
+        b"POST /satp HTTP/1.1\r\nHost: a\r\nContent-Length: \xd9\xa2\r\n\r\n{}",
+        Err(HttpFault::LengthBad),
+    ),
+    (
+        b"POST /satp HTTP/1.1\r\nHost: a\r\nContent-Length: 0000000000000000002\r\n\r\n{}",
+        Ok(1),
+    ),
+    (
+        b"POST /satp HTTP/1.1\r\nHost: a\r\nContent-Length:\t2 \r\n\r\n{}",
+        Ok(1),
+    ),
+    (
+        b"POST /satp HTTP/1.1\r\nHost: a\r\nContent-Length: 9999999999999999999\r\n\r\n{}",
+        Err(HttpFault::BodyLong {
+            length: 9999999999999999999,
+        }),
+    ),
+    (
+        b"POST /satp HTTP/1.1\r\nHost: a\r\nContent-Length: 8193\r\n\r\n{}",
+        Err(HttpFault::BodyLong { length: 8193 }),
+    ),
+    (
+        b"POST /satp HTTP/1.1\r\nHost: a\r\nContent-Length: 2\r\nContent-Length: 2\r\n\r\n{}",
+        Ok(1),
+    ),
+    (
+        b"POST /satp HTTP/1.1\r\nHost: a\r\ncontent-length: 02\r\nContent-Length: 2\r\n\r\n{}",
+        Ok(1),
+    ),
+    (
+        b"POST /satp HTTP/1.1\r\nHost: a\r\nContent-Length: 3\r\nContent-Length: 2\r\n\r\n{}",
+        Err(HttpFault::LengthBad),
+    ),
+    (
+        b"POST /satp HTTP/1.1\r\nHost: a\r\nContent-Length: +2\r\nContent-Length: 2\r\n\r\n{}",
+        Err(HttpFault::LengthBad),
+    ),
+    (
+        b"POST /satp HTTP/1.1\r\nHost: a\r\nContent-Length: 1\r\nContent-Length: 2\r\n\r\n{}",
+        Err(HttpFault::LengthBad),
+    ),
+    (
+        b"POST /satp HTTP/1.1\r\nHost: a\r\nContent-Length: 0\r\n\r\n",
+        Ok(1),
+    ),
+    (
+        b"GET / HTTP/1.0\r\nHost: a\r\nContent-Length: 2\r\n\r\n{}",
+        Err(HttpFault::Version),
+    ),
+    (
+        b"GET / HTTP/1.1\r\nContent-Length: 2\r\n\r\n{}",
+        Err(HttpFault::Method),
+    ),
+    (
+        b"POST /satp HTTP/1.1\r\nTransfer-Encoding: a\r\nContent-Encoding: a\r\nContent-Length: 2\r\n\r\n{}",
+        Err(HttpFault::NoHost),
+    ),
+    (
+        b"POST /satp HTTP/1.1\r\nHost: a\r\nTransfer-Encoding: a\r\nContent-Encoding: a\r\nContent-Length: 2\r\n\r\n{}",
+        Err(HttpFault::Chunked),
+    ),
+    (
+        b"POST /satp HTTP/1.1\r\nHost: a\r\nContent-Encoding: a\r\nExpect: a\r\n\r\n{}",
+        Err(HttpFault::Coding),
+    ),
+    (
+        b"POST /satp HTTP/1.1\r\nHost: a\r\nExpect: a\r\n\r\n{}",
+        Err(HttpFault::Expect),
+    ),
+    (
+        b"POST /satp HTTP/1.1\r\nHost: a\r\nContent-Length: 3\r\n\r\n{}",
+        Ok(0),
+    ),
+];
+
+#[test]
+fn requests_in_each_cutting(rt: HostRuntime) {
+    assert_eq!(rt; first_other_request(rt.alloc(), &REQUESTS), None);
+}
+
+const ANSWERS: [Row; 23] = [
+    (b"HTTP/1.1 200 OK\r\nContent-Length: 2\r\n\r\n{}", Ok(1)),
+    (b"HTTP/1.1 200\r\nContent-Length: 2\r\n\r\n{}", Ok(1)),
+    (
+        b"HTTP/1.1 200 OK\r\nContent-Length: 2\r\n\r\n{}HTTP/1.1 409 Conflict\r\nContent-Length: 2\r\n\r\n{}",
+        Ok(2),
+    ),
+    (
+        b"HTTP/1.0 200 OK\r\nContent-Length: 2\r\n\r\n{}",
+        Err(HttpFault::Version),
+    ),
+    (
+        b"HTTP/2 200 OK\r\nContent-Length: 2\r\n\r\n{}",
+        Err(HttpFault::Head),
+    ),
+    (
+        b"ICY 200 OK\r\nContent-Length: 2\r\n\r\n{}",
+        Err(HttpFault::Head),
+    ),
+    (
+        b"HTTP/1.1 20 OK\r\nContent-Length: 2\r\n\r\n{}",
+        Err(HttpFault::Head),
+    ),
+    (
+        b"HTTP/1.1 2000 OK\r\nContent-Length: 2\r\n\r\n{}",
+        Err(HttpFault::Head),
+    ),
+    (
+        b"HTTP/1.1 2x0 OK\r\nContent-Length: 2\r\n\r\n{}",
+        Err(HttpFault::Head),
+    ),
+    (
+        b"HTTP/1.1 200 OK\r\nServer : a\r\nContent-Length: 2\r\n\r\n{}",
+        Err(HttpFault::Head),
+    ),
+    (b"HTTP/1.1 204 No Content\r\n\r\n", Ok(1)),
+    (
+        b"HTTP/1.1 204 No Content\r\nContent-Length: 2\r\n\r\nHTTP/1.1 200 OK\r\nContent-Length: 2\r\n\r\n{}",
+        Ok(2),
+    ),
+    (
+        b"HTTP/1.1 100 Continue\r\n\r\nHTTP/1.1 200 OK\r\nContent-Length: 2\r\n\r\n{}",
+        Ok(1),
+    ),
+    (b"HTTP/1.1 100 Continue\r\n\r\n", Ok(0)),
+    (
+        b"HTTP/1.1 100 Continue\r\nTransfer-Encoding: chunked\r\n\r\n",
+        Err(HttpFault::Chunked),
+    ),
+    (
+        b"HTTP/1.1 101 Switching Protocols\r\n\r\n",
+        Err(HttpFault::LengthMissing),
+    ),
+    (
+        b"HTTP/1.1 304 Not Modified\r\n\r\n",
+        Err(HttpFault::LengthMissing),
+    ),
+    (b"HTTP/1.1 200 OK\r\n\r\n", Err(HttpFault::LengthMissing)),
+    (
+        b"HTTP/1.1 200 OK\r\nTransfer-Encoding: chunked\r\nContent-Length: 2\r\n\r\n{}",
+        Err(HttpFault::Chunked),
+    ),
+    (
+        b"HTTP/1.1 200 OK\r\nContent-Encoding: br\r\nContent-Length: 2\r\n\r\n{}",
+        Err(HttpFault::Coding),
+    ),
+    (
+        b"HTTP/1.1 200 OK\r\nContent-Length: 3\r\nContent-Length: 2\r\n\r\n{}",
+        Err(HttpFault::LengthBad),
+    ),
+    (
+        b"HTTP/1.1 200 OK\r\nContent-Length: -1\r\n\r\n{}",
+        Err(HttpFault::LengthBad),
+    ),
+    (
+        b"HTTP/1.1 200 OK\r\nContent-Length: 8193\r\n\r\n{}",
+        Err(HttpFault::BodyLong { length: 8193 }),
+    ),
+];
+
+#[test]
+fn answers_in_each_cutting(rt: HostRuntime) {
+    assert_eq!(rt; first_other_answer(rt.alloc(), &ANSWERS), None);
+}
+
+/// A front, a piece so many times over, and an end.
+fn repeated(
+    alloc: Global,
+    front: &[u8],
+    piece: &[u8],
+    times: usize,
+    end: &[u8],
+) -> Result<Text, Memory> {
+    let mut text = Text::copy(alloc, front)?;
+    for _ in 0..times {
+        text.append(piece)?;
+    }
+    text.append(end)?;
+    Ok(text)
+}
+
+#[test]
+fn limits(rt: HostRuntime) -> Result<(), Fail> {
+    let alloc = rt.alloc();
+    // heads of 8,191, 8,192 and 8,193 bytes, 55 of them beside the filling
+    for (filling, wanted) in [
+        (8136, Ok(1)),
+        (8137, Ok(1)),
+        (8138, Err(HttpFault::HeadLong)),
+    ] {
+        let head = repeated(
+            alloc,
+            b"POST /satp HTTP/1.1\r\nHost: a\r\nContent-Length: 0\r\nA:",
+            b"a",
+            filling,
+            b"\r\n\r\n",
+        )?;
+        assert_eq!(rt; cut(alloc, head.bytes(), 8192), wanted);
+        assert_eq!(rt; cut(alloc, head.bytes(), 100), wanted);
+    }
+    for (lines, wanted) in [(62, Ok(1)), (63, Err(HttpFault::ManyHeaders))] {
+        let head = repeated(
+            alloc,
+            b"POST /satp HTTP/1.1\r\nHost: a\r\nContent-Length: 0\r\n",
+            b"a: b\r\n",
+            lines,
+            b"\r\n",
+        )?;
+        assert_eq!(rt; byte_for_byte(alloc, head.bytes()), wanted);
+    }
+    let long = repeated(
+        alloc,
+        b"POST /satp HTTP/1.1\r\nHost: a\r\nContent-Length: 8192\r\n\r\n",
+        b"a",
+        8192,
+        b"",
+    )?;
+    assert_eq!(rt; cut(alloc, long.bytes(), 4000), Ok(1));
+    Ok(())
+}
+
+#[test]
+fn interim_answers(rt: HostRuntime) -> Result<(), Fail> {
+    let alloc = rt.alloc();
+    let interim = b"HTTP/1.1 100 Continue\r\n\r\n".as_slice();
+    let last = b"HTTP/1.1 204 No Content\r\n\r\n".as_slice();
+    let sixteen = repeated(alloc, b"", interim, 16, last)?;
+    let twice = repeated(alloc, b"", sixteen.bytes(), 2, b"")?;
+    let seventeen = repeated(alloc, b"", interim, 17, last)?;
+    assert_eq!(rt; hear_cut(alloc, sixteen.bytes(), 40), Ok(1));
+    assert_eq!(rt; hear_cut(alloc, twice.bytes(), 500), Ok(2));
+    assert_eq!(rt;
+        hear_cut(alloc, seventeen.bytes(), 40),
+        Err(HttpFault::Interim)
+    );
+    Ok(())
+}
 
 #[test]
 fn continues_once_and_closes(rt: HostRuntime) -> Result<(), Fail> {

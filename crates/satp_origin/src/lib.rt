@@ -4,8 +4,18 @@
 //! decides: it commits and burns, or it turns back, releases and says so. It may turn back until it has committed.
 #![tactic(auto)]
 
+ghost use Rattle.satp_origin.specs.Laws.{LawTales};
+
 mod choice;
 mod table;
+#[cfg(test)]
+mod tests;
 
 pub use choice::{abort, after, allows};
 pub use table::next;
+
+/// Behind any list of records that the rule allows the chain's kinds are a tale, and a further record that it allows
+/// keeps them one. The law makes no call.
+pub fn law_tales()
+    ensures { LawTales }
+{}

@@ -1,0 +1,5 @@
+pub mod PieceLemmas
+pub mod Failing
+pub mod Scanning
+pub mod AppendLemmas
+pub mod OpenLemmas

@@ -1,0 +1,39 @@
+ghost use Rattle.std.specs.Prelude.{◌≡◌};
+ghost use Rattle.satp_journal.specs.declared.fault.JournalFault.TheVariants.{Memory, Disk};
+
+use satp_base::DiskFault;
+use std::alloc::AllocError;
+use thiserror::Error;
+
+/// Why a journal wasn't opened, or a payload wasn't added.
+#[derive(Clone, Copy, Debug, PartialEq, Eq, Error)]
+pub enum JournalFault {
+    /// A call on the disk failed.
+    #[error("disk")]
+    Disk,
+    /// At this place stands the first open gate without a whole record behind it.
+    #[error("damaged at {at}")]
+    Damaged { at: u64 },
+    /// No memory was found.
+    #[error("out of memory")]
+    Memory,
+    /// A call on the disk failed before, and the journal wasn't opened again since.
+    #[error("broken")]
+    Broken,
+}
+
+impl From<AllocError> for JournalFault {
+    ghost from_gives = { λ _ fault. fault ≡ Memory };
+
+    fn from(_error: AllocError) -> JournalFault {
+        JournalFault::Memory
+    }
+}
+
+impl From<DiskFault> for JournalFault {
+    ghost from_gives = { λ _ fault. fault ≡ Disk };
+
+    fn from(_fault: DiskFault) -> JournalFault {
+        JournalFault::Disk
+    }
+}

@@ -1,16 +1,15 @@
 -- More than 64 header lines, by the line feeds that the code counts.
-use Rattle.std.proofs.Common.{◌≡◌, ◌≢◌, ℕ, ◌+◌, ◌-◌, ◌<◌, ◌≤◌, ◌⊎◌, inl, inr, Bool, true, false, List, [], ◌∷◌, ◌++◌, length, take, drop, refl, ap, ◌∙◌, sym, subst, arith, append_assoc}
+use Rattle.std.proofs.Common.{◌≡◌, ℕ, ◌+◌, ◌<◌, ◌≤◌, inl, inr, true, false, List, [], ◌∷◌, ◌++◌, length, refl, ap, ◌∙◌, sym, subst, arith, append_assoc}
 use Rattle.std.specs.Prelude.{All}
 use Rattle.std.specs.List.{flat_map}
 use Rattle.std.proofs.lemmas.Bool.{ltb-true, lt-ltb, both_ways}
-use Rattle.std.proofs.lemmas.List.{append-nil, length-append}
-use Rattle.httparse.specs.Grammar.{LineEnd, lf, crlf, print_end, print_blank, print_field, Field, IsField, is_uri_byte, is_token_byte}
+use Rattle.httparse.specs.Grammar.{print_blank, print_field, Field, IsField, is_uri_byte}
 use Rattle.httparse.specs.Pieces.{Stops, is_newline}
 use Rattle.httparse.proofs.PieceLemmas.{Stops_token}
 use Rattle.std.proofs.lemmas.List.{append_cancel_right}
 use Rattle.satp_http.specs.Found.{behind_empty_lines, line_feeds, has_many_lines}
-use Rattle.satp_http.specs.Heads.{Sender, client, server, Head, IsGrammatical, head_bytes, header_lines, Reads, HasNone, HasOver, MayBecome, EndsWithin}
-use Rattle.satp_http.proofs.LineLemmas.{IsLine, HasLines, whole_blank, whole_line, whole_lines, behind_blank, no_empty_lines, feeds_line, feeds_fields, feeds-append, no_feeds, line-append, token_line, class_line, return_of, end_is}
+use Rattle.satp_http.specs.Heads.{Sender, client, server, Head, IsGrammatical, head_bytes, header_lines, HasNone, HasOver, MayBecome, EndsWithin}
+use Rattle.satp_http.proofs.LineLemmas.{whole_blank, whole_line, whole_lines, behind_blank, no_empty_lines, feeds_line, feeds_fields, no_feeds, line-append, token_line, class_line, return_of, end_is}
 use Rattle.satp_http.proofs.HeadParts.{blank_of, start_of, last_of, head_is, start_line, start_stops, with_lines, with_lines_grammatical, lines_with, bytes_with, fields_of_grammar}
 
 -- the line feeds of a head whose lines are there

@@ -1,19 +1,19 @@
 -- A head that the parser found at the front of the window.
-use Rattle.std.proofs.Common.{◌≡◌, ◌≢◌, ℕ, ◌+◌, ◌<◌, ◌≤◌, List, [], ◌∷◌, ◌++◌, map, length, take, drop, refl, ap, ◌∙◌, sym, subst, arith, append_assoc, Option, Some, None}
+use Rattle.std.proofs.Common.{◌≡◌, ℕ, ◌<◌, ◌≤◌, List, [], ◌∷◌, ◌++◌, length, drop, ap, ◌∙◌, sym, subst, arith, append_assoc, Some}
 use Rattle.std.specs.List.{flat_map}
 use Rattle.std.specs.Borrow.{Bor}
 use Rattle.std.specs.Option.{option_copied}
-use Rattle.std.proofs.lemmas.List.{append-nil, length-append, length-map}
+use Rattle.std.proofs.lemmas.List.{length-map}
 use Rattle.httparse.specs.Grammar.{RequestHead, ResponseHead, status_code, print_blank, print_field, print_end, Field}
 use Rattle.httparse.specs.Spans.{name_and_value}
 use Rattle.httparse.specs.Borrowed.{AreFields, header_parts}
 use Rattle.httparse.specs.declared.borrowed.Request.{Request}
 use Rattle.httparse.specs.declared.borrowed.Response.{Response}
 use Rattle.httparse.specs.declared.borrowed.Header.{Header}
-use Rattle.satp_http.specs.Heads.{Sender, client, server, Head, head_bytes, header_lines, Reads, HasOver}
-use Rattle.satp_http.specs.Table.{RequestParts, request_parts, AnswerParts, answer_parts, table, first_fault}
+use Rattle.satp_http.specs.Heads.{Sender, Head, head_bytes, header_lines, Reads, HasOver}
+use Rattle.satp_http.specs.Table.{request_parts, answer_parts, table, first_fault}
 use Rattle.satp_http.specs.Found.{IsHeadAt, request_parts_read, answer_parts_read}
-use Rattle.satp_http.specs.HttpText.{IsHead, HasBadHead, window}
+use Rattle.satp_http.specs.HttpText.{HasBadHead, window}
 use Rattle.satp_http.specs.declared.fault.HttpFault.{HttpFault}
 use Rattle.satp_http.proofs.WindowLemmas.{whole}
 use Rattle.satp_http.proofs.HeadParts.{blank_of, start_of, last_of, head_is, with_lines, with_lines_grammatical, lines_with, bytes_with, fields_of_grammar}

@@ -1,10 +1,9 @@
 -- A head as its empty lines, its start line, its header lines and its last line, of either sender.
-use Rattle.std.proofs.Common.{◌≡◌, ◌≢◌, ℕ, ◌+◌, ◌<◌, ◌≤◌, ◌⊎◌, inl, inr, Bool, true, false, ◌&&◌, ◌||◌, ◌==◌, cond, List, [], ◌∷◌, ◌++◌, length, refl, ap, ◌∙◌, sym, subst, arith, append_assoc, Option, Some, None}
+use Rattle.std.proofs.Common.{◌≡◌, ℕ, List, [], ◌∷◌, ◌++◌, refl, ap, ◌∙◌, sym, subst, arith, append_assoc, Option, Some, None}
 use Rattle.std.specs.Prelude.{All}
 use Rattle.std.specs.List.{flat_map}
-use Rattle.std.proofs.lemmas.List.{append-nil}
 use Rattle.std.specs.Char.{is_ascii_digit}
-use Rattle.httparse.specs.Grammar.{LineEnd, lf, crlf, print_end, print_blank, print_version, print_reason, reason_phrase, Field, IsField, print_field, print_section, RequestHead, IsRequestHead, ResponseHead, IsResponseHead, is_uri_byte, is_token_byte, AllPass}
+use Rattle.httparse.specs.Grammar.{LineEnd, lf, print_end, print_blank, print_version, print_reason, reason_phrase, Field, IsField, print_field, print_section, is_uri_byte}
 use Rattle.httparse.specs.Pieces.{Stops, is_newline}
 use Rattle.httparse.proofs.PieceLemmas.{Stops_token}
 use Rattle.httparse.proofs.GrammarLemmas.{print_request-append, print_response-append, request_unique, response_unique}

@@ -1,6 +1,5 @@
 pub mod WindowLemmas
 pub mod ValueLemmas
-pub mod ListTests
 pub mod TextLemmas
 pub mod LineLemmas
 pub mod HeadParts

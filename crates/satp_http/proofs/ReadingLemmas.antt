@@ -1,20 +1,18 @@
 -- Bytes have one reading, and more bytes change no fault.
-use Rattle.std.proofs.Common.{◌≡◌, ◌≢◌, ℕ, ◌+◌, ◌-◌, ◌<◌, ◌≤◌, ◌⊎◌, inl, inr, List, [], ◌∷◌, ◌++◌, map, length, take, drop, refl, ap, ◌∙◌, sym, subst, arith, append_assoc, Option, Some, None}
+use Rattle.std.proofs.Common.{◌≡◌, ℕ, ◌-◌, ◌<◌, inl, inr, List, [], ◌∷◌, ◌++◌, length, take, drop, refl, ap, ◌∙◌, sym, subst, arith, append_assoc, Option, Some, None}
 use Rattle.std.specs.List.{flat_map}
 use Rattle.std.proofs.lemmas.List.{append-nil, length-append, take-append-drop, take-append-le}
 use Rattle.std.proofs.lemmas.Bool.{cases_lt}
 use Rattle.httparse.specs.Grammar.{print_blank, print_end, print_field}
-use Rattle.httparse.specs.Pieces.{SectionOfAtMost, Begins, Never}
+use Rattle.httparse.specs.Pieces.{SectionOfAtMost, Begins}
 use Rattle.httparse.proofs.PieceLemmas.{Blank_deterministic, Never_elim}
 use Rattle.httparse.proofs.ReadLemmas.{SectionOfAtMost_overflow}
 use Rattle.satp_http.specs.declared.fault.HttpFault.{HttpFault}
 use Rattle.satp_http.specs.declared.fault.HttpFault.TheVariants as fault
-use Rattle.satp_http.specs.declared.requests.Asked.{Asked}
-use Rattle.satp_http.specs.declared.responses.Answered.{Answered}
-use Rattle.satp_http.specs.Heads.{Sender, client, server, Head, IsGrammatical, head_bytes, header_lines, Reads, HasNone, NeverHas, HasOver, MayBecome, EndsWithin}
+use Rattle.satp_http.specs.Heads.{Sender, client, server, Head, head_bytes, header_lines, Reads, HasNone, NeverHas, HasOver, EndsWithin}
 use Rattle.satp_http.specs.Table.{table, first_fault, body_length, interim_after}
-use Rattle.satp_http.specs.HttpText.{HttpText, Sent, sent_bytes, IsSent, AreSent, interim_behind, IsHead, IsPart, Awaits, IsUnfinished, HasNoHead, HasBadHead, HasFault, Ends, window, HttpRequests, HttpAnswers, requests_of, answers_of}
-use Rattle.satp_http.specs.Laws.{IsSameEnd, StandTogether, IsJudgedLate, OneReadingOfRequests, OneReadingOfAnswers}
+use Rattle.satp_http.specs.HttpText.{HttpText, Sent, sent_bytes, IsSent, AreSent, interim_behind, IsHead, IsPart, IsUnfinished, HasNoHead, HasFault, Ends, window, requests_of, answers_of}
+use Rattle.satp_http.specs.Laws.{IsSameEnd, OneReadingOfRequests, OneReadingOfAnswers}
 use Rattle.satp_http.proofs.WindowLemmas.{split, window_of, grown, take_whole}
 use Rattle.satp_http.proofs.LineLemmas.{return_of, same_line}
 use Rattle.satp_http.proofs.HeadParts.{blank_of, start_of, last_of, head_is, start_line, start_stops, fields_of_grammar, one_head}

@@ -1,21 +1,18 @@
 -- Calls in any order.
-use Rattle.std.proofs.Common.{◌≡◌, ◌≢◌, ℕ, ◌⊎◌, inl, inr, List, [], ◌∷◌, ◌++◌, cond, map, length, refl, ap, ◌∙◌, sym, subst, arith, append_assoc, Option, Some, None, true, false, ◌==◌}
-use Rattle.std.specs.Prelude.{Result, Ok, Err}
+use Rattle.std.proofs.Common.{◌≡◌, ℕ, inl, inr, List, [], ◌∷◌, ◌++◌, refl, ap, ◌∙◌, sym, subst, append_assoc, Option, Some, None, ◌==◌}
+use Rattle.std.specs.Prelude.{Ok, Err}
 use Rattle.std.specs.List.{flat_map, AllByRecursion}
 use Rattle.std.proofs.lemmas.Bool.{eq-eqb, ne_eqb, cond-true, cond-false}
 use Rattle.std.proofs.lemmas.List.{append-nil, map-append}
 use Rattle.std.proofs.lemmas.Grind.{flat_map-append}
 use Rattle.httparse.specs.Grammar.{status_code}
 use Rattle.satp_http.specs.declared.fault.HttpFault.{HttpFault}
-use Rattle.satp_http.specs.declared.fault.HttpFault.TheVariants as fault
 use Rattle.satp_http.specs.declared.requests.Asked.{Asked}
-use Rattle.satp_http.specs.declared.requests.Taken.{Taken}
 use Rattle.satp_http.specs.declared.requests.Taken.TheVariants.{More, Continue, Request}
 use Rattle.satp_http.specs.declared.responses.Answered.{Answered}
 use Rattle.satp_http.specs.Heads.{Sender, client, server}
-use Rattle.satp_http.specs.Table.{interim_after}
-use Rattle.satp_http.specs.HttpText.{HttpText, Sent, sent_bytes, IsSent, AreSent, interim_behind, asked_of, requests_of, answer_of, answers_of, HasFault, IsUnfinished, Ends, HttpRequests, HttpAnswers}
-use Rattle.satp_http.specs.Feeds.{RequestFeed, no_requests, TakesRequest, BeginsWith, AnswerFeed, no_answers, TakesAnswer, Passes, IsInterim, BeginsWithAnswer}
+use Rattle.satp_http.specs.HttpText.{HttpText, Sent, sent_bytes, AreSent, interim_behind, asked_of, requests_of, answer_of, answers_of, HasFault, IsUnfinished, Ends, HttpRequests, HttpAnswers}
+use Rattle.satp_http.specs.Feeds.{RequestFeed, no_requests, TakesRequest, AnswerFeed, no_answers, TakesAnswer, Passes, IsInterim, BeginsWithAnswer}
 use Rattle.satp_http.specs.Runs.{RequestTaken, AnswerTaken, Call, fed, took, came, RequestRun, request_given, requests_taken, SaysRequestsEnd, AnswerRun, answer_given, answers_taken, SaysAnswersEnd}
 use Rattle.satp_http.specs.Laws.{RequestsInAnyPieces, AnswersInAnyPieces, RequestFaultInEachCutting, AnswerFaultInEachCutting}
 use Rattle.satp_http.proofs.SentLemmas.{behind-append, sent-append}

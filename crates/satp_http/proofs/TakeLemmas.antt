@@ -1,5 +1,5 @@
 -- What is taken off the front.
-use Rattle.std.proofs.Common.{◌≡◌, ℕ, ◌+◌, ◌-◌, ◌<◌, ◌≤◌, ◌⊎◌, inl, inr, true, false, cond, ◌||◌, ◌==◌, List, [], ◌∷◌, ◌++◌, length, take, drop, refl, ap, ◌∙◌, sym, subst, arith, append_assoc, slice_range, Option, Some, None}
+use Rattle.std.proofs.Common.{◌≡◌, ℕ, ◌+◌, ◌<◌, ◌≤◌, true, List, [], ◌∷◌, ◌++◌, length, take, drop, refl, ap, ◌∙◌, sym, subst, arith, append_assoc, slice_range, Option, Some, None}
 use Rattle.std.specs.List.{flat_map}
 use Rattle.std.proofs.lemmas.Bool.{eq-eqb, cond-true, or_left}
 use Rattle.std.proofs.lemmas.List.{append-nil, length-append, length-drop, length-take-le, take-append-drop, drop-drop}
@@ -7,11 +7,10 @@ use Rattle.std.proofs.lemmas.Grind.{flat_map-append}
 use Rattle.httparse.specs.Grammar.{print_blank, print_field, print_end, status_code}
 use Rattle.satp_http.specs.declared.fault.HttpFault.{HttpFault}
 use Rattle.satp_http.specs.declared.answer_head.AnswerFraming.{AnswerFraming}
-use Rattle.satp_http.specs.declared.responses.Answered.{Answered}
-use Rattle.satp_http.specs.Heads.{Sender, client, server, Head, head_bytes, header_lines}
-use Rattle.satp_http.specs.Table.{table, first_fault, body_length, answer_parts, answer_length, is_interim, is_bodiless, interim_after}
+use Rattle.satp_http.specs.Heads.{Sender, server, Head, head_bytes, header_lines}
+use Rattle.satp_http.specs.Table.{table, first_fault, body_length, answer_parts, is_interim, is_bodiless, interim_after}
 use Rattle.satp_http.specs.Found.{IsHeadAt, FramesAnswer}
-use Rattle.satp_http.specs.HttpText.{Sent, sent_bytes, IsSent, interim_behind, Awaits, HasFault}
+use Rattle.satp_http.specs.HttpText.{Sent, sent_bytes, IsSent, Awaits, HasFault}
 use Rattle.satp_http.specs.Feeds.{IsStuck, BeginsWith, Passes, BeginsWithAnswer}
 use Rattle.satp_http.proofs.WindowLemmas.{slice_is}
 use Rattle.satp_http.proofs.HeadParts.{blank_of, start_of, last_of, head_is}

@@ -1,14 +1,14 @@
 -- The values of a name's lines, by tests on the lines that the parser gives.
-use Rattle.std.proofs.Common.{◌≡◌, ◌≢◌, ℕ, zero, suc, ◌+◌, ◌*◌, ◌^◌, ◌<◌, ◌≤◌, ◌⊎◌, inl, inr, Bool, true, false, not, cond, ◌&&◌, ◌||◌, List, [], ◌∷◌, map, length, get_or, drop, refl, ap, ◌∙◌, sym, arith, Option, Some, None, add-one, eqb}
-use Rattle.std.specs.Prelude.{count_by, filter}
+use Rattle.std.proofs.Common.{◌≡◌, ℕ, suc, ◌+◌, ◌*◌, ◌^◌, ◌<◌, ◌≤◌, Bool, true, false, cond, ◌&&◌, ◌||◌, List, [], ◌∷◌, map, length, get_or, drop, refl, ap, ◌∙◌, sym, arith, Option, Some, None, add-one, eqb}
+use Rattle.std.specs.Prelude.{count_by}
 use Rattle.std.specs.List.{list_any, list_all}
 use Rattle.std.specs.Str.Parse.{digits_value}
 use Rattle.std.proofs.Math.Seq.{drop-cons}
 use Rattle.std.proofs.Math.Nat.{pow-le-pow_right, pow-suc}
 use Rattle.std.proofs.lemmas.List.Sums.{sum_by-cons}
-use Rattle.std.proofs.lemmas.Bool.{cond-true, cond-false, eq-eqb, ne_eqb}
+use Rattle.std.proofs.lemmas.Bool.{cond-true, cond-false, eq-eqb}
 use Rattle.httparse.specs.declared.borrowed.Header.{Header}
-use Rattle.satp_http.specs.Lines.{same_word, values_of, writes, is_length, agreed}
+use Rattle.satp_http.specs.Lines.{same_word, values_of, writes, is_length}
 use Rattle.satp_http.specs.LineLists.{lines_of}
 use Rattle.satp_http.specs.Agreeing.{agrees_on, agreed_with}
 

@@ -1,28 +1,28 @@
 -- What is written, as heads of the grammar.
-use Rattle.std.proofs.Common.{◌≡◌, ◌≢◌, ℕ, ◌+◌, ◌-◌, ◌*◌, ◌^◌, ◌<◌, ◌≤◌, ◌⊎◌, inl, inr, Bool, true, false, not, cond, ◌&&◌, ◌||◌, ◌==◌, List, [], ◌∷◌, ◌++◌, map, reverse, length, refl, ap, ◌∙◌, sym, subst, arith, append_assoc, Option, Some, None, codes, decimal, IsTrue, IsUtf8, if◌then◌else◌, ◌/◌, ◌%◌}
-use Rattle.std.specs.Prelude.{All, bytes_eq, is_none, unwrap_or, nat_lt, nat_le}
+use Rattle.std.proofs.Common.{◌≡◌, ℕ, ◌+◌, ◌<◌, ◌≤◌, Bool, true, false, cond, ◌&&◌, ◌||◌, ◌==◌, List, [], ◌∷◌, ◌++◌, map, reverse, length, refl, ap, ◌∙◌, sym, subst, arith, append_assoc, Option, Some, None, codes, decimal, IsTrue, if◌then◌else◌, ◌/◌, ◌%◌}
+use Rattle.std.specs.Prelude.{All, is_none, unwrap_or, nat_lt, nat_le}
 use Rattle.std.specs.List.{flat_map, list_all, list_any}
 use Rattle.std.specs.Char.{is_ascii_digit, digit_value}
 use Rattle.std.specs.Str.Parse.{digits_value, AllDigits}
-use Rattle.std.proofs.lemmas.Bool.{eq-eqb, eqb-true, cond-true, cond-false, and_from, and_parts, both_ways, cases_lt, lt-ltb, le-ltb, le-leb, leb-true, ltb-true, ne_eqb, or_from}
+use Rattle.std.proofs.lemmas.Bool.{eq-eqb, eqb-true, cond-false, and_from, and_parts, both_ways, lt-ltb, le-ltb, le-leb, leb-true, ltb-true, ne_eqb}
 use Rattle.std.proofs.lemmas.Bool.Decides.{nat_tests}
 use Rattle.std.proofs.lemmas.Fmt.{decimal_is_IsNumeral, length-decimal-le, decimal_nonempty, decimal_step, decimal_digit}
 use Rattle.std.proofs.lemmas.List.{append-nil, length-append}
-use Rattle.std.proofs.lemmas.List.Elements.{All-head, All-tail, All-cons, All-nil, All-weaker, All-append}
+use Rattle.std.proofs.lemmas.List.Elements.{All-head, All-cons, All-nil, All-weaker, All-append}
 use Rattle.std.proofs.lemmas.List.Sums.{AllPass-from_list_all, list_all-from_AllPass}
 use Rattle.std.proofs.lemmas.Grind.{flat_map-append}
 use Rattle.std.proofs.lemmas.Str.{IsUtf8-from_ascii}
 use Rattle.std.proofs.lemmas.Str.Ascii.{IsAscii-from_all}
 use Rattle.httparse.specs.Ascii.{crlf_bytes}
-use Rattle.httparse.specs.Grammar.{AllPass, IsToken, is_token_byte, is_value_byte, is_uri_byte, is_ows, skip_ows, trim_ows, crlf, print_end, print_section, Field, IsField, print_field, RequestHead, IsRequestHead, print_request, ResponseHead, IsResponseHead, print_response, status_code}
+use Rattle.httparse.specs.Grammar.{AllPass, is_token_byte, is_value_byte, is_uri_byte, is_ows, skip_ows, trim_ows, crlf, Field, IsField, print_field, RequestHead, IsRequestHead, print_request, ResponseHead, print_response}
 use Rattle.httparse.specs.Spans.{name_and_value}
 use Rattle.httparse.proofs.TrimLemmas.{trim_ows_space, AllPass-reverse}
 use Rattle.satp_base.specs.Names.{is_address, is_address_byte}
-use Rattle.satp_http.specs.Written.{head_line, content_lines, request_text, answer_codes, is_answer_code, phrase, allow_lines, kind_lines, close_lines, response_text}
-use Rattle.satp_http.specs.Heads.{Sender, client, server, Head, head_bytes}
+use Rattle.satp_http.specs.Written.{head_line, content_lines, request_text, is_answer_code, phrase, allow_lines, kind_lines, close_lines, response_text}
+use Rattle.satp_http.specs.Heads.{Sender, client, server, head_bytes}
 use Rattle.satp_http.specs.Lines.{agreed, is_length, writes}
-use Rattle.satp_http.specs.Table.{table, first_fault, body_length, request_parts, AnswerParts, answer_parts, answer_length, closes, interim_after, is_interim, answer_table}
-use Rattle.satp_http.specs.HttpText.{HttpText, Sent, sent_bytes, IsSent, IsHead, AreSent, interim_behind, Ends, asked_of, answer_of, requests_of, answers_of, HttpRequests, HttpAnswers}
+use Rattle.satp_http.specs.Table.{first_fault, AnswerParts, answer_parts, answer_length, interim_after, is_interim, answer_table}
+use Rattle.satp_http.specs.HttpText.{HttpText, Sent, sent_bytes, IsSent, AreSent, interim_behind, Ends, answers_of}
 use Rattle.satp_http.specs.Laws.{WrittenRequestIsRead, WrittenAnswerIsRead}
 use Rattle.satp_http.specs.declared.fault.HttpFault.{HttpFault}
 use Rattle.satp_http.specs.declared.requests.Asked.{Asked}

@@ -1,5 +1,5 @@
 -- The bytes that came and were not taken yet, and what the calls on them do.
-use Rattle.std.specs.Prelude.{◌≡◌, ◌≤◌, ◌<◌, ◌⊎◌, ℕ, ◌-◌, min, Bool, true, false, List, [], ◌∷◌, ◌++◌, length, take, Option, Some, None, Result, Ok, Err}
+use Rattle.std.specs.Prelude.{◌≡◌, ◌⊎◌, ℕ, ◌-◌, min, Bool, true, false, List, [], ◌++◌, length, take, Option, Some, None, Result, Ok, Err}
 use Rattle.std.specs.List.{flat_map, AllByRecursion}
 use Rattle.httparse.specs.Grammar.{RequestHead, status_code}
 use Rattle.satp_http.specs.declared.fault.HttpFault.{HttpFault}
@@ -8,7 +8,7 @@ use Rattle.satp_http.specs.declared.requests.Taken.{Taken}
 use Rattle.satp_http.specs.declared.requests.Taken.TheVariants.{More, Continue, Request}
 use Rattle.satp_http.specs.declared.responses.Answered.{Answered}
 use Rattle.satp_http.specs.Heads.{Sender, client, server}
-use Rattle.satp_http.specs.Table.{request_parts, expects, interim_after}
+use Rattle.satp_http.specs.Table.{request_parts, expects}
 use Rattle.satp_http.specs.HttpText.{Sent, sent_bytes, IsSent, AreSent, interim_behind, asked_of, HasFault, IsUnfinished, IsPart, Awaits}
 
 -- what fits was added

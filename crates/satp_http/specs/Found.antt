@@ -1,5 +1,5 @@
 -- What is found at the front of the bytes.
-use Rattle.std.specs.Prelude.{◌≡◌, ◌≤◌, ◌<◌, ℕ, ◌+◌, ◌==◌, ◌&&◌, Bool, nat_lt, List, [], ◌∷◌, ◌++◌, length, drop, Some, None, if◌then◌else◌}
+use Rattle.std.specs.Prelude.{◌≡◌, ◌≤◌, ◌<◌, ℕ, ◌==◌, ◌&&◌, Bool, nat_lt, List, [], ◌∷◌, ◌++◌, length, drop, Some, None, if◌then◌else◌}
 use Rattle.std.specs.List.{count_by}
 use Rattle.httparse.specs.Ascii.{line_feed, carriage_return}
 use Rattle.httparse.specs.Grammar.{RequestHead, ResponseHead}
@@ -13,7 +13,7 @@ use Rattle.satp_http.specs.declared.responses.Front.{Front}
 use Rattle.satp_http.specs.Feeds.{Passes}
 use Rattle.satp_http.specs.Heads.{Sender, client, server, Head, head_bytes}
 use Rattle.satp_http.specs.LineLists.{lines_of}
-use Rattle.satp_http.specs.Table.{RequestParts, AnswerParts, request_parts, answer_parts, request_table, answer_table, first_fault, request_length, answer_length, expects, closes, is_interim}
+use Rattle.satp_http.specs.Table.{RequestParts, AnswerParts, request_parts, answer_parts, request_table, answer_table, first_fault, request_length, answer_length, expects, closes}
 use Rattle.satp_http.specs.HttpText.{IsHead, HasFault, IsPart}
 
 -- ---- whole lines

@@ -6,7 +6,7 @@ use Rattle.satp_http.specs.declared.fault.HttpFault.TheVariants as fault
 use Rattle.satp_http.specs.declared.requests.Asked.{Asked}
 use Rattle.satp_http.specs.declared.responses.Answered.{Answered}
 use Rattle.satp_http.specs.Heads.{Sender, client, server, NeverHas, EndsWithin}
-use Rattle.satp_http.specs.HttpText.{Sent, HttpText, HasNoHead, window, HttpRequests, HttpAnswers}
+use Rattle.satp_http.specs.HttpText.{HasNoHead, window, HttpRequests, HttpAnswers}
 use Rattle.satp_http.specs.Feeds.{RequestFeed, no_requests, TakesRequest, AnswerFeed, no_answers, TakesAnswer}
 use Rattle.satp_http.specs.Runs.{RequestTaken, AnswerTaken, Call, came, RequestRun, requests_taken, SaysRequestsEnd, AnswerRun, answers_taken, SaysAnswersEnd}
 use Rattle.satp_http.specs.Written.{request_text, response_text, is_answer_code}

@@ -14,6 +14,7 @@ use std::marker::Model;
 /// A request that came whole.
 #[derive(Drop)]
 pub struct Asked {
+    /// The bytes behind the head, as many as its Content-Length says.
     pub body: Text,
     /// Whether the client closes the connection behind it.
     pub close: bool,
@@ -80,8 +81,8 @@ impl Requests {
 
     /// Takes the request at the front, where it is whole. Where it isn't there is room for more bytes.
     ///
-    /// The fault of what is held is answered again by each later call, but for `Memory`, which changes
-    /// nothing.
+    /// A fault comes as soon as the bytes held show it, and is the first of its head in the order of
+    /// `HttpFault`. It is answered again by each later call, but for `Memory`, which changes nothing.
     pub fn take(&mut self, alloc: Global) -> Result<Taken, HttpFault>
         ensures takes { TakesRequest self.old self.new result }
         ensures room { result ≡ Ok More → length self.new.held < 16384 }

@@ -14,7 +14,9 @@ use std::marker::Model;
 /// An answer that came whole.
 #[derive(Drop)]
 pub struct Answered {
+    /// The status code: any three digits but 100.
     pub code: u16,
+    /// The bytes behind the head, as many as its Content-Length says; none for 204.
     pub body: Text,
 }
 
@@ -89,8 +91,10 @@ impl Responses {
     /// Takes the answer at the front, where it is whole. Answers of code 100 are passed over, at most
     /// sixteen in a row. Where no other answer is whole there is room for more bytes.
     ///
-    /// The fault of what is held is answered again by each later call, but for `Memory`, which changes
-    /// nothing.
+    /// A fault comes as soon as the bytes held show it, and is the first of its head in this order: `Head`,
+    /// `ManyHeaders`, `HeadLong`, `Version`, `Interim`, `Chunked`, `Coding`, and for codes other than 100 and
+    /// 204 `LengthMissing`, `LengthBad`, `BodyLong`. It is answered again by each later call, but for
+    /// `Memory`, which changes nothing.
     pub fn take(&mut self, alloc: Global) -> Result<Option<Answered>, HttpFault>
         ensures takes { TakesAnswer self.old self.new result }
         ensures room { result ≡ Ok None → length self.new.held < 16384 }

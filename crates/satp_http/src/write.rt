@@ -27,6 +27,7 @@ fn add_content(text: &mut Text, kind: &[u8], size: usize) -> Result<(), Memory>
     add_line(text, b"Content-Length: ", digits.format(size).as_bytes())
 }
 
+/// A 405 says which method is allowed (RFC 9110, section 15.5.6).
 fn add_allow(text: &mut Text, code: u16) -> Result<(), Memory>
     ensures { OnOk result (text.new ≡ text.old ++ allow_lines code) }
 {
@@ -36,6 +37,7 @@ fn add_allow(text: &mut Text, code: u16) -> Result<(), Memory>
     Ok(())
 }
 
+/// The lines of the type and the length, which a 204 doesn't have (RFC 9110, section 8.6).
 fn add_kind(text: &mut Text, code: u16, size: usize) -> Result<(), Memory>
     ensures { OnOk result (text.new ≡ text.old ++ kind_lines code size) }
 {
@@ -48,6 +50,7 @@ fn add_kind(text: &mut Text, code: u16, size: usize) -> Result<(), Memory>
     add_content(text, b"text/plain", size)
 }
 
+/// Says where this side closes the connection (RFC 9112, section 9.6).
 fn add_close(text: &mut Text, close: bool) -> Result<(), Memory>
     ensures { OnOk result (text.new ≡ text.old ++ close_lines close) }
 {

@@ -1,8 +1,7 @@
-use Rattle.std.proofs.Common.{rules, drop, ◌≡◌, ◌≤◌, ◌<◌, ℕ, List, length, sym, subst, ap, ◌∙◌, arith, refl, inl, inr}
+use Rattle.std.proofs.Common.{rules, drop, ◌≡◌, ℕ, List, sym, subst, ◌∙◌, arith, inl, inr}
 use Rattle.satp_http.specs.Heads.{server, Reads, HasNone, NeverHas, HasOver, MayBecome}
-use Rattle.satp_http.specs.HttpText.{IsPart, window}
 use Rattle.satp_http.specs.Table.{AnswerParts}
-use Rattle.satp_http.specs.Found.{FramesAnswer, IsAnswerFault, has_many_lines}
+use Rattle.satp_http.specs.Found.{FramesAnswer, IsAnswerFault}
 use Rattle.satp_http.proofs.WindowLemmas.{take_whole}
 use Rattle.satp_http.proofs.FoundLemmas.{exceeds, head_at, bad_head, same_answer_parts, few_fields, many_fields}
 use Rattle.satp_http.proofs.CountLemmas.{many_over, few_not_over}

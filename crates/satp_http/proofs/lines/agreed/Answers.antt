@@ -1,8 +1,8 @@
-use Rattle.std.proofs.Common.{◌≡◌, ◌∙◌, ◌+◌, rules, arith, ap, sym, true, drop, List, ℕ, Option, Some, get_or, refl}
+use Rattle.std.proofs.Common.{◌∙◌, ◌+◌, ap, sym, drop, get_or}
 use Rattle.std.specs.Prelude.{codes}
 use Rattle.satp_http.specs.Lines.{same_word, values_of}
 use Rattle.satp_http.specs.LineLists.{lines_of}
-use Rattle.satp_http.specs.Agreeing.{agrees_on, agreed_with}
+use Rattle.satp_http.specs.Agreeing.{agrees_on}
 use Rattle.satp_http.proofs.ValueLemmas.{no_header, agrees_with, agrees_not, values_here, values_later}
 use Rattle.satp_http.proofs.lines.agreed.Goals.{then-same_word+in_ok-agree, else-same_word}
 use Rattle.satp_http.proofs.lines.agreed.Goals as goal

@@ -1,4 +1,4 @@
-use Rattle.std.proofs.Common.{◌≡◌, ◌++◌, take, drop}
+use Rattle.std.proofs.Common.{◌≡◌, drop}
 use Rattle.std.specs.Prelude.{codes}
 use Rattle.satp_http.specs.Lines.{values_of, agreed}
 use Rattle.satp_http.specs.LineLists.{lines_of}

@@ -1,8 +1,9 @@
-use Rattle.std.proofs.Common.{◌≡◌, ◌<◌, ◌+◌, get_or, rules, arith, true, sym}
+use Rattle.std.proofs.Common.{◌≡◌, ◌<◌, ◌∙◌, get_or, arith, sym}
 use Rattle.std.specs.Char.{is_ascii_digit, digit_value}
 use Rattle.std.proofs.lemmas.Bool.Decides.{nat_tests}
 use Rattle.std.proofs.lemmas.Int.Digits.{digits_value_more}
-use Rattle.satp_http.proofs.ListTests.{list_all_more}
+use Rattle.std.proofs.lemmas.Bool.{and_from}
+use Rattle.std.proofs.lemmas.List.Folds.{list_all_more}
 use Rattle.satp_http.proofs.ValueLemmas.{digit_fits}
 use Rattle.satp_http.proofs.lines.length_of.Goals as goal
 
@@ -20,7 +21,7 @@ loop-digit-preserved c =
     let digit : digit_value (get_or c.args.value.now c.loop-digit.digit-index 0) ≡ c.from.result = grind (arith, nat_tests) in
     record {
       value = omega (arith, digits_value_more 10 c.args.value.now _ c.loop-digit-test.true, c.loop-digit.invariant.value);
-      digits = list_all_more is_ascii_digit _ _ 0 c.loop-digit-test.true c.loop-digit.invariant.digits (sym c.if-not-is_ascii_digit.ensures.value);
+      digits = list_all_more is_ascii_digit c.args.value.now c.loop-digit.digit-index 0 c.loop-digit-test.true ∙ and_from _ _ c.loop-digit.invariant.digits (sym c.if-not-is_ascii_digit.ensures.value);
       short = c.loop-digit.invariant.short;
       bound = (digit_fits c.loop-digit.number c.from.result c.loop-digit.digit-index c.loop-digit.invariant.bound (omega arith) small).0;
     }

@@ -1,4 +1,4 @@
-use Rattle.std.proofs.Common.{◌≡◌, ◌≤◌, ◌-◌, length, drop}
+use Rattle.std.proofs.Common.{◌≤◌, ◌-◌, length, drop}
 use Rattle.satp_http.specs.Feeds.{Passes}
 use Rattle.satp_http.proofs.responses.front_of.Given as goal
 

@@ -1,4 +1,4 @@
-use Rattle.std.proofs.Common.{rules, ◌∙◌, ap, sym}
+use Rattle.std.proofs.Common.{◌∙◌, ap}
 use Rattle.std.specs.Prelude.{codes, decimal}
 use Rattle.satp_http.specs.Written.{head_line, content_lines}
 use Rattle.satp_http.proofs.TextLemmas.{on_ok_joined, on_ok_along}

@@ -1,4 +1,4 @@
-use Rattle.std.proofs.Common.{◌∙◌, ap, sym, ◌++◌, append_assoc, List, ℕ}
+use Rattle.std.proofs.Common.{◌∙◌, ap, ◌++◌, append_assoc, List, ℕ}
 use Rattle.httparse.specs.Ascii.{crlf_bytes}
 use Rattle.satp_http.specs.Written.{head_line}
 use Rattle.satp_http.proofs.TextLemmas.{on_ok_joined}

@@ -1,4 +1,4 @@
-use Rattle.std.proofs.Common.{◌∙◌, ap, refl, List, ℕ, ◌≤◌, ◌<◌, arith}
+use Rattle.std.proofs.Common.{◌∙◌, ap, refl, List, ℕ, arith}
 use Rattle.std.specs.Borrow.{Bor}
 use Rattle.http.specs.StatusCode.{reason_phrase}
 use Rattle.satp_http.specs.Written.{phrase}

@@ -1,4 +1,4 @@
-use Rattle.std.proofs.Common.{◌≡◌, ◌++◌, ap, ◌∙◌, length, List, ℕ}
+use Rattle.std.proofs.Common.{◌++◌, ap, ◌∙◌, length, List, ℕ}
 use Rattle.std.specs.Prelude.{codes}
 use Rattle.httparse.specs.Ascii.{crlf_bytes}
 use Rattle.satp_http.specs.Written.{request_text, head_line, content_lines}

@@ -1,7 +1,7 @@
-use Rattle.std.proofs.Common.{◌≡◌, ◌++◌, ap, ◌∙◌, length, List, ℕ}
-use Rattle.std.specs.Prelude.{codes, decimal}
+use Rattle.std.proofs.Common.{◌++◌, ap, ◌∙◌, length, List, ℕ}
+use Rattle.std.specs.Prelude.{codes}
 use Rattle.httparse.specs.Ascii.{crlf_bytes}
-use Rattle.satp_http.specs.Written.{response_text, head_line, kind_lines, allow_lines, close_lines, phrase}
+use Rattle.satp_http.specs.Written.{response_text, head_line, kind_lines, allow_lines, close_lines}
 use Rattle.satp_http.proofs.write.write_response.Goals as goal
 
 pub returns : goal.returns

@@ -1,4 +1,4 @@
-use Rattle.std.proofs.Common.{◌≡◌, ◌≤◌, ◌+◌, ◌++◌, length, take, drop, arith, subst, sym, List, ℕ, inl, inr, refl, ap, ◌∙◌, slice_range, true, false}
+use Rattle.std.proofs.Common.{◌≡◌, ◌≤◌, ◌+◌, ◌++◌, length, take, drop, arith, subst, sym, List, ℕ, inl, inr, refl, ap, ◌∙◌, slice_range, false}
 use Rattle.std.proofs.lemmas.List.{drop-drop}
 use Rattle.satp_http.specs.Heads.{client}
 use Rattle.satp_http.specs.Found.{IsHeadAt}

@@ -1,4 +1,4 @@
-use Rattle.std.proofs.Common.{◌≡◌, ◌≤◌, ◌+◌, ◌++◌, length, take, drop, arith, subst, sym, List, ℕ, inl, inr, refl, ap, ◌∙◌, slice_range, true, false}
+use Rattle.std.proofs.Common.{◌≡◌, ◌≤◌, ◌+◌, length, drop, arith, subst, sym, List, ℕ, inl, inr, refl, ap, ◌∙◌, slice_range}
 use Rattle.satp_http.specs.Heads.{server}
 use Rattle.satp_http.specs.Found.{IsFront, FindsAnswer, IsFinal}
 use Rattle.satp_http.specs.Feeds.{IsStuck, Passes, BeginsWithAnswer}

@@ -1,0 +1,4 @@
+pub mod Texts
+pub mod KeyTexts
+pub mod Listings
+mod Examples

@@ -1,0 +1,12 @@
+//! The words of a command line: which command they list, and with which values.
+#![tactic(auto)]
+
+mod command;
+mod keys;
+mod options;
+mod reader;
+#[cfg(test)]
+mod tests;
+
+pub use command::{Command, WordsFault};
+pub use reader::read;

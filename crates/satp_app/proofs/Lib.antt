@@ -1,0 +1,6 @@
+pub mod Reading
+pub mod Writing
+pub mod Ends
+pub mod Inputs
+pub mod Listings
+pub mod Runs

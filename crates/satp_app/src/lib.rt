@@ -1,0 +1,16 @@
+//! The program as one function: the words of a command line and the devices in, an exit status out.
+//!
+//! Whatever a command does is said by the contract of [`run`]; a program above it only makes the
+//! devices and ends with the status.
+#![tactic(auto)]
+
+mod answer_command;
+mod outcome;
+mod streams;
+#[cfg(test)]
+mod tests;
+mod top;
+mod words;
+
+pub use outcome::Outcome;
+pub use top::run;

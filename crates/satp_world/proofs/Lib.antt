@@ -12,3 +12,10 @@ pub mod Safety
 pub mod SafeTest
 pub mod SafeCheck
 pub mod SafeLaw
+pub mod Records
+pub mod Places
+pub mod RuleMoves
+pub mod Chained
+pub mod Growth
+pub mod PairLaw
+pub mod WorldLaw

@@ -291,7 +291,7 @@ recipient-facts a b s r (Recipient_ahead k m e) =
 
 -- ---- a move keeps whose view it is, and its terms
 
-push-head : (v : View) (r : Rec) → ((push v r).role ≡ v.role) × ((push v r).terms ≡ v.terms)
+pub push-head : (v : View) (r : Rec) → ((push v r).role ≡ v.role) × ((push v r).terms ≡ v.terms)
 push-head v (Began role terms) = (refl, refl)
 push-head v (Took kind) = (refl, refl)
 push-head v (Made kind) = (refl, refl)

@@ -1,2 +1,3 @@
 pub mod Deal
 pub mod Sessions
+pub mod Worlds

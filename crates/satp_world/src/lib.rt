@@ -4,6 +4,7 @@
 #![tactic(auto)]
 
 ghost use Rattle.satp_world.specs.Sessions.{LawSessions, LawStep};
+ghost use Rattle.satp_world.specs.Worlds.{LawSafety};
 
 /// From every state of a session in which the joint invariant holds, each move of either side keeps it, and is a step
 /// of the deal machine or leaves the deal as it is. Ledgers may answer as their amounts allow.
@@ -15,4 +16,11 @@ pub fn law_step()
 /// mint recorded and the recipient ready, and a session whose two tales are one whole tale is settled.
 pub fn law_sessions()
     ensures { LawSessions }
+{}
+
+/// In every world that moves of both gateways lead to, over their signed texts and ledgers, each session of either
+/// gateway is in such a state, and whatever moves next, its deal goes on by one step of the deal machine or not at all.
+/// Texts may be lost, repeated and reordered, and gateways may stop: only a text that was said is ever taken.
+pub fn law_safety()
+    ensures { LawSafety }
 {}

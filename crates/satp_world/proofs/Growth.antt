@@ -1,0 +1,113 @@
+-- What one record more makes of a side's chain of a session.
+use Rattle.std.proofs.Common.{◌≡◌, ℕ, ◌+◌, ◌≤◌, Bool, true, false, List, [], ◌∷◌, ◌++◌, map, length, Option, Some, None, refl, sym, ap, subst, ◌∙◌, arith}
+use Rattle.std.specs.List.{AllByRecursion}
+use Rattle.std.proofs.lemmas.List.{append-nil, map-append}
+use Rattle.satp_base.specs.declared.name.Name.{Name}
+use Rattle.satp_base.specs.declared.session.SessionId.{SessionId}
+use Rattle.satp_base.specs.declared.message.Kind.{Kind}
+use Rattle.satp_base.specs.declared.message.Role.{Role}
+use Rattle.satp_base.specs.declared.message.Terms.{Terms}
+use Rattle.satp_base.specs.declared.message.Part.{Part}
+use Rattle.satp_base.specs.declared.message.Part.TheVariants.{Proposal}
+use Rattle.satp_base.specs.declared.record.Rec.{Rec}
+use Rattle.satp_base.specs.declared.record.Rec.TheVariants.{Began, Took, Made, Did, Chose, Rescue}
+use Rattle.satp_base.specs.declared.view.View.{View}
+use Rattle.satp_base.specs.Canonical.{part_kind}
+use Rattle.satp_base.specs.Forms.{IsPart}
+use Rattle.satp_base.specs.Chains.{next_text, texts_from, texts_of}
+use Rattle.satp_base.specs.Views.{begin, push}
+use Rattle.satp_base.proofs.ChainLemmas.{texts_appended}
+use Rattle.satp_world.specs.Sessions.{tale_of}
+use Rattle.satp_world.specs.Worlds.{Side, Stored, chain_in, is_session, records_of, view_in, with_record, IsNote}
+use Rattle.satp_world.proofs.Records.{session-self, view-here, chain-here, view-first, chain-none, view-apart, chain-apart}
+use Rattle.satp_world.proofs.Chained.{HalfChain, formed-more}
+use Rattle.satp_world.proofs.StepLaw.{push-head}
+
+-- the record carries a message of this kind
+pub data Carries (k : Kind) : Rec → Type 0 where
+  As_taken : Carries k (Took k)
+  As_made : Carries k (Made k)
+
+some_is : (v w : View) → Some v ≡ Some w → v ≡ w
+some_is v w e = cc e
+
+pushed-tale : (v : View) (k : Kind) (r : Rec) → Carries k r → (push v r).tale ≡ v.tale ++ k ∷ []
+pushed-tale v k _ As_taken = refl
+pushed-tale v k _ As_made = refl
+
+one-text : (s : SessionId) (side : Side) (k : Kind) (r : Rec) (t : List ℕ) → Carries k r → chain_in s (with_record side s r t).records ≡ chain_in s side.records ++ t ∷ []
+one-text s side k _ t As_taken = chain-here s side.records (record { session = s; rec = Took k; text = t }) (session-self s)
+one-text s side k _ t As_made = chain-here s side.records (record { session = s; rec = Made k; text = t }) (session-self s)
+
+-- one message more
+pub half-more : (s : SessionId) (recipient : Name) (key : List ℕ) (side : Side) (parts : List Part) (v : View) (p : Part) (r : Rec) → HalfChain s recipient key side parts → view_in s side.records ≡ Some v → IsPart p → Carries (part_kind p) r
+    → HalfChain s recipient key (with_record side s r (next_text s recipient key (chain_in s side.records) p)) (parts ++ p ∷ [])
+half-more s recipient key side parts v p r h e f c =
+    let view = view-here s side.records (record { session = s; rec = r; text = next_text s recipient key (chain_in s side.records) p }) v (session-self s) e in
+    record {
+      chain = one-text s side (part_kind p) r (next_text s recipient key (chain_in s side.records) p) c ∙ ap (λ ts. ts ++ next_text s recipient key ts p ∷ []) h.chain ∙ sym (texts_appended s recipient key parts p);
+      tale = ap tale_of view ∙ pushed-tale v (part_kind p) r c ∙ ap (λ t. t ++ part_kind p ∷ []) (sym (ap tale_of e) ∙ h.tale) ∙ sym (map-append part_kind parts (p ∷ []));
+      formed = formed-more parts p h.formed f;
+      headed = λ w q.
+          (let same : push v r ≡ w = some_is _ _ (sym view ∙ q) in
+          let (rest, first) = h.headed v e in
+          (rest ++ p ∷ [], ap (λ ps. ps ++ p ∷ []) first ∙ ap (λ (t : Terms). Proposal t ∷ (rest ++ p ∷ [])) (sym (push-head v r).1 ∙ ap (λ (x : View). x.terms) same)));
+    }
+
+note-tale : (v : View) (r : Rec) → IsNote r → (push v r).tale ≡ v.tale
+note-tale v (Began role terms) n = refl
+note-tale v (Took k) n = absurd n
+note-tale v (Made k) n = absurd n
+note-tale v (Did op) n = refl
+note-tale v (Chose way) n = refl
+note-tale v Rescue n = refl
+
+no-text : (s : SessionId) (side : Side) (r : Rec) (t : List ℕ) → IsNote r → chain_in s (with_record side s r t).records ≡ chain_in s side.records
+no-text s side (Began role terms) t n = absurd n
+no-text s side (Took k) t n = absurd n
+no-text s side (Made k) t n = absurd n
+no-text s side (Did op) t n = chain-here s side.records (record { session = s; rec = Did op; text = t }) (session-self s) ∙ append-nil (chain_in s side.records)
+no-text s side (Chose way) t n = chain-here s side.records (record { session = s; rec = Chose way; text = t }) (session-self s) ∙ append-nil (chain_in s side.records)
+no-text s side Rescue t n = chain-here s side.records (record { session = s; rec = Rescue; text = t }) (session-self s) ∙ append-nil (chain_in s side.records)
+
+-- a record without a message
+pub half-noted : (s : SessionId) (recipient : Name) (key : List ℕ) (side : Side) (parts : List Part) (v : View) (r : Rec) (t : List ℕ) → HalfChain s recipient key side parts → view_in s side.records ≡ Some v → IsNote r
+    → HalfChain s recipient key (with_record side s r t) parts
+half-noted s recipient key side parts v r t h e n =
+    let view = view-here s side.records (record { session = s; rec = r; text = t }) v (session-self s) e in
+    record {
+      chain = no-text s side r t n ∙ h.chain;
+      tale = ap tale_of view ∙ note-tale v r n ∙ sym (ap tale_of e) ∙ h.tale;
+      formed = h.formed;
+      headed = λ w q.
+          (let same : push v r ≡ w = some_is _ _ (sym view ∙ q) in
+          let (rest, first) = h.headed v e in
+          (rest, first ∙ ap (λ (t : Terms). Proposal t ∷ rest) (sym (push-head v r).1 ∙ ap (λ (x : View). x.terms) same)));
+    }
+
+-- the first record of a session, with its proposal
+pub half-first : (s : SessionId) (recipient : Name) (key : List ℕ) (side : Side) (role : Role) (terms : Terms) → records_of s side.records ≡ []
+    → HalfChain s recipient key (with_record side s (Began role terms) (next_text s recipient key [] (Proposal terms))) (Proposal terms ∷ [])
+unfolding texts_from
+half-first s recipient key side role terms e =
+    let text = next_text s recipient key [] (Proposal terms) in
+    let x : Stored = record { session = s; rec = Began role terms; text = text } in
+    let view = view-first s side.records x (session-self s) e in
+    record {
+      chain = chain-here s side.records x (session-self s) ∙ ap (λ ts. ts ++ text ∷ []) (chain-none s side.records e) ∙ sym (texts_appended s recipient key [] (Proposal terms));
+      tale = ap tale_of view;
+      formed = (tt, tt);
+      headed = λ w q. ([], ap (λ (t : Terms). Proposal t ∷ []) (ap (λ (x : View). x.terms) (some_is (begin role terms) w (sym view ∙ q))));
+    }
+
+-- a record of another session
+pub half-apart : (s t : SessionId) (recipient : Name) (key : List ℕ) (side : Side) (parts : List Part) (r : Rec) (text : List ℕ) → is_session s t ≡ false → HalfChain s recipient key side parts
+    → HalfChain s recipient key (with_record side t r text) parts
+half-apart s t recipient key side parts r text e h =
+    let x : Stored = record { session = t; rec = r; text = text } in
+    record {
+      chain = chain-apart s side.records x e ∙ h.chain;
+      tale = ap tale_of (view-apart s side.records x e) ∙ h.tale;
+      formed = h.formed;
+      headed = λ w q. h.headed w (sym (view-apart s side.records x e) ∙ q);
+    }

@@ -1,0 +1,146 @@
+-- What the role's rule allows is a move of a session.
+use Rattle.std.proofs.Common.{◌≡◌, ◌≢◌, ℕ, Bool, true, false, cond, List, [], ◌∷◌, ◌++◌, Option, Some, None, refl, sym, ap, subst, ◌∙◌, ◌⊎◌, inl, inr}
+use Rattle.std.specs.FinMap.{get, get-insert}
+use Rattle.std.specs.Option.{option_map_or}
+use Rattle.satp_base.specs.declared.ledger.LedgerEntry.{LedgerEntry}
+use Rattle.satp_base.specs.declared.message.Kind.{Kind}
+use Rattle.satp_base.specs.declared.message.Role.{Role}
+use Rattle.satp_base.specs.declared.message.Role.TheVariants.{Origin, Recipient}
+use Rattle.satp_base.specs.declared.message.Terms.{Terms}
+use Rattle.satp_base.specs.declared.session.SessionId.{SessionId}
+use Rattle.satp_base.specs.declared.ledger.LedgerOp.{LedgerOp}
+use Rattle.satp_base.specs.declared.ledger.LedgerOp.TheVariants.{Lock, Burn, Mint, Assign, Release}
+use Rattle.satp_base.specs.declared.ledger.Entry.{Entry}
+use Rattle.satp_base.specs.declared.ledger.Entry.TheVariants.{Absent, Locked, Burnt, Minted, Assigned, Released}
+use Rattle.satp_base.specs.declared.ledger.Answer.{Answer}
+use Rattle.satp_base.specs.declared.record.Way.TheVariants.{Commit, Back}
+use Rattle.satp_base.specs.declared.record.Cause.TheVariants.{LockRefused, UnknownAsset, MintCapped, LedgerTaken}
+use Rattle.satp_base.specs.declared.record.Rec.{Rec}
+use Rattle.satp_base.specs.declared.record.Rec.TheVariants.{Began, Took, Made, Did, Chose, Rescue}
+use Rattle.satp_base.specs.declared.record.Next.{Next}
+use Rattle.satp_base.specs.declared.record.Next.TheVariants.{Append, Act, Wait, Ended}
+use Rattle.satp_base.specs.declared.view.View.{View}
+use Rattle.satp_base.specs.Money.{Book}
+use Rattle.satp_base.specs.LedgerRule.{LedgerRule, entry_of, leads, moved, result_of, terms_of}
+use Rattle.satp_base.specs.Tales.{IsTale, maker, makes, other}
+use Rattle.satp_base.specs.Views.{push}
+use Rattle.satp_base.specs.Roles.{RoleRule, next_of, After, Other}
+use Rattle.satp_base.specs.Roles.RoleRule.{Due, Answered, Free}
+use Rattle.satp_base.proofs.RoleLemmas.{role-gives, after-shape, makes-is}
+use Rattle.satp_base.proofs.SessionLemmas.{sessions_total}
+use Rattle.satp_world.specs.Sessions.{Half, Moves, Agrees, after_record, can_do}
+use Rattle.satp_world.specs.Sessions.Moves.{Appends, Learns, Takes, Decides, Acts}
+use Rattle.satp_world.specs.Worlds.{IsNote, LedgerFits, is_session}
+use Rattle.satp_world.proofs.Records.{session-self}
+
+-- ---- the ledger's rule, at the entry of the session
+
+entry-moved : (b : Book) (op : LedgerOp) (s : SessionId) (terms : Terms) → entry_of (moved b op s terms).entries s ≡ result_of op
+entry-moved b op s terms = ap (λ o. option_map_or (λ (k : LedgerEntry). k.entry) o Absent) (get-insert sessions_total b.entries s (record { entry = result_of op; terms = terms_of b.entries s terms }) s ∙ ap (λ t. cond t (Some (record { entry = result_of op; terms = terms_of b.entries s terms })) (get b.entries s)) (session-self s))
+
+does_own : (op : LedgerOp) → can_do op (result_of op) ≡ true
+does_own = elim [ Lock ↦ refl | Burn ↦ refl | Mint ↦ refl | Assign ↦ refl | Release ↦ refl ]
+
+leads_can : (op : LedgerOp) (e : Entry) → leads op e ≡ true → can_do op e ≡ true
+leads_can Lock Absent h = refl
+leads_can Burn Locked h = refl
+leads_can Mint Absent h = refl
+leads_can Assign Minted h = refl
+leads_can Release Absent h = refl
+leads_can Release Locked h = refl
+leads_can Release Minted h = refl
+leads_can _ _ h = absurd (cc h)
+
+pub agrees-by : (b : Book) (op : LedgerOp) (s : SessionId) (terms : Terms) (a : Answer) (new : Book) → LedgerRule b op s terms a new → Agrees op (entry_of b.entries s) a (entry_of new.entries s)
+agrees-by b op s terms Answer.Done new (inl h) = (subst (λ e. can_do op e ≡ true) (sym h.0) (does_own op), ap (λ x. entry_of x.entries s) h.1 ∙ h.0)
+agrees-by b op s terms Answer.Done new (inr h) = (leads_can op _ h.0, ap (λ x. entry_of x.entries s) h.2 ∙ entry-moved b op s terms)
+agrees-by b Lock s terms (Answer.Taken entry) new h = (h.0, h.1, h.2, ap (λ x. entry_of x.entries s) h.3)
+agrees-by b Lock s terms (Answer.NoFunds free) new h = (h.0, ap (λ x. entry_of x.entries s) h.3)
+agrees-by b Mint s terms (Answer.Taken entry) new h = (h.0, h.1, h.2, ap (λ x. entry_of x.entries s) h.3)
+agrees-by b Mint s terms Answer.UnknownAsset new h = (h.0, ap (λ x. entry_of x.entries s) h.2)
+agrees-by b Mint s terms (Answer.Capped total) new h = (h.0, ap (λ x. entry_of x.entries s) h.3)
+agrees-by b _ s terms _ new h = absurd h
+
+-- ---- records
+
+agrees-done : (op : LedgerOp) (e : Entry) → e ≡ result_of op → Agrees op e Answer.Done e
+agrees-done op e p = (subst (λ v. can_do op v ≡ true) (sym p) (does_own op), p)
+
+-- the ledger's answer behind an answered record, as it stands now
+answered-now : (b : Book) (s : SessionId) (terms : Terms) (op : LedgerOp) (a : Answer) (r : Rec) → After op a r → LedgerFits b s terms r → (x : Answer) × Agrees op (entry_of b.entries s) x (entry_of b.entries s) × After op x r
+answered-now b s terms op Answer.Done r x l = (Answer.Done, agrees-done op _ (subst (LedgerFits b s terms) x l), x)
+answered-now b s terms Lock (Answer.NoFunds f) r x l = let (a, rule, after) = subst (LedgerFits b s terms) x l in (a, agrees-by b Lock s terms a b rule, subst (After Lock a) (sym x) after)
+answered-now b s terms Lock (Answer.Taken f) r x l = let (a, rule, after) = subst (LedgerFits b s terms) x l in (a, agrees-by b Lock s terms a b rule, subst (After Lock a) (sym x) after)
+answered-now b s terms Mint Answer.UnknownAsset r x l = let (a, rule, after) = subst (LedgerFits b s terms) x l in (a, agrees-by b Mint s terms a b rule, subst (After Mint a) (sym x) after)
+answered-now b s terms Mint (Answer.Capped f) r x l = let (a, rule, after) = subst (LedgerFits b s terms) x l in (a, agrees-by b Mint s terms a b rule, subst (After Mint a) (sym x) after)
+answered-now b s terms Mint (Answer.Taken f) r x l = let (a, rule, after) = subst (LedgerFits b s terms) x l in (a, agrees-by b Mint s terms a b rule, subst (After Mint a) (sym x) after)
+answered-now b s terms _ _ r x l = absurd x
+
+not_took : (r : Rec) → IsNote r → (k : Kind) → r ≢ Took k
+not_took (Took k) n j e = n
+not_took (Made k) n j e = cc e
+not_took (Began role terms) n j e = cc e
+not_took (Did op) n j e = cc e
+not_took (Chose way) n j e = cc e
+not_took Rescue n j e = cc e
+
+pub note-moves : (role : Role) (v : View) (b : Book) (s : SessionId) (peer : List Kind) (r : Rec) → RoleRule role v r → IsNote r → LedgerFits b s v.terms r → Moves role (record { view = v; entry = entry_of b.entries s }) peer (record { view = push v r; entry = entry_of b.entries s })
+note-moves role v b s peer r (Due e) n l = Appends r e
+note-moves role v b s peer r (Answered op a e x) n l = let (y, g, z) = answered-now b s v.terms op a r x l in Learns op y r e g z
+note-moves role v b s peer r (Free o) n l = Decides r o (not_took r n)
+
+pub made-moves : (role : Role) (v : View) (e : Entry) (peer : List Kind) (k : Kind) → RoleRule role v (Made k) → Moves role (record { view = v; entry = e }) peer (record { view = push v (Made k); entry = e })
+made-moves role v e peer k (Due d) = Appends (Made k) d
+made-moves role v e peer k (Answered op a d x) = elim (after-shape op a (Made k) x) [ inl q ↦ absurd (cc q) | inr q ↦ absurd (cc q.1) ]
+made-moves Origin v e peer k (Free o) = absurd o
+made-moves Recipient v e peer k (Free o) = absurd o
+
+takes_not : Next → Bool
+takes_not (Append (Took k)) = false
+takes_not _ = true
+
+never_takes : (role : Role) (v : View) → takes_not (next_of role v) ≡ true
+unfolding takes_not
+never_takes Origin v = role-gives takes_not Origin v refl refl
+never_takes Recipient v = role-gives takes_not Recipient v refl refl
+
+no_take : (role : Role) (v : View) (k : Kind) → next_of role v ≡ Append (Took k) → ⊥
+unfolding takes_not
+no_take role v k e = let h = subst (λ n. takes_not n ≡ true) e (never_takes role v) in cc h
+
+pub took-rule : (role : Role) (v : View) (k : Kind) → RoleRule role v (Took k) → (maker k ≡ Some (other role)) × IsTale (v.tale ++ k ∷ [])
+took-rule role v k (Due e) = absurd (no_take role v k e)
+took-rule role v k (Answered op a e x) = elim (after-shape op a (Took k) x) [ inl q ↦ absurd (cc q) | inr q ↦ absurd (cc q.1) ]
+took-rule Origin v k (Free o) = o
+took-rule Recipient v k (Free o) = o
+
+own_made : Role → Next → Bool
+own_made role (Append (Made k)) = makes role k
+own_made role _ = true
+
+made_own : (role : Role) (v : View) → own_made role (next_of role v) ≡ true
+unfolding own_made
+made_own Origin v = role-gives (own_made Origin) Origin v refl refl
+made_own Recipient v = role-gives (own_made Recipient) Recipient v refl refl
+
+-- what a side makes is of its own kinds
+pub made-rule : (role : Role) (v : View) (k : Kind) → RoleRule role v (Made k) → maker k ≡ Some role
+unfolding own_made
+made-rule role v k (Due e) = makes-is role k (subst (λ n. own_made role n ≡ true) e (made_own role v))
+made-rule role v k (Answered op a e x) = elim (after-shape op a (Made k) x) [ inl q ↦ absurd (cc q) | inr q ↦ absurd (cc q.1) ]
+made-rule Origin v k (Free o) = absurd o
+made-rule Recipient v k (Free o) = absurd o
+
+moved-apart : (b : Book) (op : LedgerOp) (t : SessionId) (terms : Terms) (s : SessionId) → is_session s t ≡ false → entry_of (moved b op t terms).entries s ≡ entry_of b.entries s
+moved-apart b op t terms s n = ap (λ o. option_map_or (λ (k : LedgerEntry). k.entry) o Absent) (get-insert sessions_total b.entries t (record { entry = result_of op; terms = terms_of b.entries t terms }) s ∙ ap (λ x. cond x (Some (record { entry = result_of op; terms = terms_of b.entries t terms })) (get b.entries s)) n)
+
+-- an operation leaves the entries of other sessions
+pub entry-apart : (b : Book) (op : LedgerOp) (t : SessionId) (terms : Terms) (a : Answer) (new : Book) (s : SessionId) → is_session s t ≡ false → LedgerRule b op t terms a new → entry_of new.entries s ≡ entry_of b.entries s
+entry-apart b op t terms Answer.Done new s n (inl h) = ap (λ x. entry_of x.entries s) h.1
+entry-apart b op t terms Answer.Done new s n (inr h) = ap (λ x. entry_of x.entries s) h.2 ∙ moved-apart b op t terms s n
+entry-apart b Lock t terms (Answer.Taken entry) new s n h = ap (λ x. entry_of x.entries s) h.3
+entry-apart b Lock t terms (Answer.NoFunds free) new s n h = ap (λ x. entry_of x.entries s) h.3
+entry-apart b Mint t terms (Answer.Taken entry) new s n h = ap (λ x. entry_of x.entries s) h.3
+entry-apart b Mint t terms Answer.UnknownAsset new s n h = ap (λ x. entry_of x.entries s) h.2
+entry-apart b Mint t terms (Answer.Capped total) new s n h = ap (λ x. entry_of x.entries s) h.3
+entry-apart b _ t terms _ new s n h = absurd h

@@ -5,6 +5,8 @@ mod fault;
 mod link;
 mod reader;
 mod row;
+#[cfg(test)]
+mod tests;
 mod writer;
 
 pub use fault::CanonFault;

@@ -1,9 +1,13 @@
 //! Devices in memory: they tell all, and can be made to fail.
 #![tactic(auto)]
 
+mod areas;
 mod calls;
+mod copy;
+mod disk;
 mod sink;
 mod source;
 
+pub use disk::MemDisk;
 pub use sink::MemSink;
 pub use source::MemSource;

@@ -7,6 +7,8 @@ mod copy;
 mod disk;
 mod sink;
 mod source;
+#[cfg(test)]
+mod tests;
 
 pub use disk::MemDisk;
 pub use sink::MemSink;

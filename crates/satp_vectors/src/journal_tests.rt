@@ -23,8 +23,16 @@ fn a_journal_is_opened_appended_to_and_opened_again(rt: HostRuntime) {
         return;
     };
     assert_eq!(rt; again.count(), 2);
-    assert!(rt; again.payload(0).is_some_and(|payload| payload == b"abc".as_slice()));
-    assert!(rt; again.payload(1).is_some_and(|payload| payload == b"d".as_slice()));
+    assert!(rt;
+        again
+            .payload(0)
+            .is_some_and(|payload| payload == b"abc".as_slice())
+    );
+    assert!(rt;
+        again
+            .payload(1)
+            .is_some_and(|payload| payload == b"d".as_slice())
+    );
     assert!(rt; again.payload(2).is_none());
 }
 

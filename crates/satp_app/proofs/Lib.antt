@@ -2,5 +2,4 @@ pub mod Reading
 pub mod Writing
 pub mod Ends
 pub mod Inputs
-pub mod Listings
-pub mod Runs
+pub mod Lines

@@ -1,10 +1,11 @@
 -- Bytes that are written piece by piece.
-use Rattle.std.proofs.Common.{◌≡◌, ℕ, ◌+◌, ◌-◌, ◌<◌, ◌≤◌, List, ◌++◌, length, take, drop, Option, Some, None, ap, ap₂, subst, sym, ◌∙◌, arith, append_assoc, append-nil, length-drop}
+use Rattle.std.proofs.Common.{◌≡◌, ℕ, zero, suc, [], ◌∷◌, refl, zero-add, length-append, ◌+◌, ◌-◌, ◌<◌, ◌≤◌, List, ◌++◌, length, take, drop, Option, Some, None, ap, ap₂, subst, sym, ◌∙◌, arith, append_assoc, append-nil, length-drop}
 use Rattle.std.specs.Prelude.{IfSome}
 use Rattle.std.proofs.Math.Seq.{take-length}
 use Rattle.std.proofs.lemmas.List.{drop-take, take-append-drop}
 use Rattle.std.proofs.lemmas.Grind.{common_steps}
-use Rattle.satp_base.specs.Streams.{Gains}
+use Rattle.satp_base.specs.Streams.{Gains, Rose}
+use Rattle.satp_app.specs.Outside.{Printed, PrintedPart, SinkState}
 
 -- of these bytes so many were written behind those before
 abbrev pub Wrote : Option (List ℕ) → List ℕ → ℕ → Option (List ℕ) → Type 0
@@ -19,21 +20,27 @@ take_both k n xs = ap₂ (λ (a b : List ℕ). a ++ b) (sym (take_less k n xs)) 
 pub rest_of : (k : ℕ) (bytes : List ℕ) → take (length bytes - k) (drop k bytes) ≡ drop k bytes
 rest_of k bytes = rw (← length-drop k bytes) (take-length (drop k bytes))
 
-pub wrote_none : (start : Option (List ℕ)) (bytes : List ℕ) → Wrote start bytes 0 start
-wrote_none None bytes = tt
-wrote_none (Some before) bytes = ap Some (sym (append-nil before))
-
 pub wrote_more : (start now after : Option (List ℕ)) (bytes : List ℕ) (k n : ℕ) → Wrote start bytes k now → Gains now (drop k bytes) n after → Wrote start bytes (k + n) after
 wrote_more None now after bytes k n e g = tt
 wrote_more (Some before) now after bytes k n e g =
     let told = subst (λ (o : Option (List ℕ)). IfSome o (λ x. after ≡ Some (x ++ take n (drop k bytes)))) e g.told in
     told ∙ ap Some (append_assoc before (take k bytes) _ ∙ ap (λ x. before ++ x) (take_both k n bytes))
 
--- a write that failed took none
-pub wrote_same : (start now after : Option (List ℕ)) (bytes : List ℕ) (k : ℕ) → Wrote start bytes k now → after ≡ now → Wrote start bytes k after
-wrote_same None now after bytes k e same = tt
-wrote_same (Some before) now after bytes k e same = same ∙ e
+-- ---- one text behind another
 
-pub wrote_all : (start now : Option (List ℕ)) (bytes : List ℕ) (k : ℕ) → Wrote start bytes k now → k ≡ length bytes → IfSome start (λ before. now ≡ Some (before ++ bytes))
-wrote_all None now bytes k e all = tt
-wrote_all (Some before) now bytes k e all = e ∙ ap (λ xs. Some (before ++ xs)) (ap (λ n. take n bytes) all ∙ take-length bytes)
+both : (start middle now : Option (List ℕ)) (x y : List ℕ) → IfSome start (λ t. middle ≡ Some (t ++ x)) → IfSome middle (λ t. now ≡ Some (t ++ y)) → IfSome start (λ t. now ≡ Some (t ++ (x ++ y)))
+both None middle now x y e f = tt
+both (Some t) middle now x y e f = let g = subst (λ (o : Option (List ℕ)). IfSome o (λ t. now ≡ Some (t ++ y))) e f in g ∙ ap Some (append_assoc t x y)
+
+take_behind : (k : ℕ) (x y : List ℕ) → take (length x + k) (x ++ y) ≡ x ++ take k y
+take_behind k [] y = ap (λ n. take n y) (zero-add k)
+take_behind k (z ∷ x) y = let next : length (z ∷ x) + k ≡ suc (length x + k) = omega arith in ap (λ n. take n (z ∷ x ++ y)) next ∙ ap (λ zs. z ∷ zs) (take_behind k x y)
+
+pub printed_both : (x y : List ℕ) (b m a : SinkState) → Printed x b m → Printed y m a → Printed (x ++ y) b a
+printed_both x y b m a p q = (q.0 ∙ p.0, both b.taken m.taken a.taken x y p.1 q.1)
+
+pub printed_part : (x y : List ℕ) (b m a : SinkState) → Printed x b m → PrintedPart y m a → PrintedPart (x ++ y) b a
+printed_part x y b m a p q =
+    let within : length x + q.1.0 < length (x ++ y) = omega (arith, q.1.1, length-append x y) in
+    let wrote = both b.taken m.taken a.taken x (take q.1.0 y) p.1 q.1.2 in
+    (subst (λ n. Rose n a.faults) p.0 q.0, (length x + q.1.0, within, subst (λ (zs : List ℕ). IfSome b.taken (λ t. a.taken ≡ Some (t ++ zs))) (sym (take_behind q.1.0 x y)) wrote))

@@ -1,18 +1,36 @@
--- What a run of the program does.
-use Rattle.std.specs.Prelude.{◌≡◌, ℕ, List}
-use Rattle.satp_base.specs.declared.name.Name.{Name}
+-- What each command does, and what a run of the program does.
+use Rattle.std.specs.Prelude.{◌≡◌, ◌⊎◌, ℕ, List, Option, Some, None}
 use Rattle.satp_app.specs.Answer.{answer_says}
-use Rattle.satp_app.specs.Outcomes.{status_of}
-use Rattle.satp_app.specs.Outside.{OutsideState, SinkState}
-use Rattle.satp_app.specs.Streams.{Reports, StreamRule}
-use Rattle.satp_app.specs.Words.{IsListed, NotListed}
+use Rattle.satp_app.specs.Check.{check_says, signed_says}
+use Rattle.satp_app.specs.Outcomes.{line_of, status_of}
+use Rattle.satp_app.specs.Outside.{OutsideState, Printed, PrintedPart, SinkState}
+use Rattle.satp_app.specs.Streams.{StreamRule}
+use Rattle.satp_app.specs.Texts.{text_form}
 use Rattle.satp_app.specs.declared.outcome.Outcome.{Outcome}
-use Rattle.satp_app.specs.declared.outcome.Outcome.TheVariants.{WordsRefused}
+use Rattle.satp_app.specs.declared.outcome.Outcome.TheVariants.{WordsRefused, Memory}
+use Rattle.satp_words.specs.Commands.{IsListed, NotListed}
+use Rattle.satp_words.specs.declared.command.Command.{Command}
+use Rattle.satp_words.specs.declared.command.Command.TheVariants.{Answer, Check}
 
--- The words are refused and nothing is touched, or the command that they list ends so.
+-- One line for each command: how it ends, and how the outside then stands.
+abbrev pub CommandRule : Command → OutsideState → OutsideState → Outcome → Type 0
+CommandRule (Answer name) b a outcome = StreamRule text_form (answer_says name) b.streams a.streams outcome
+CommandRule (Check None) b a outcome = StreamRule text_form check_says b.streams a.streams outcome
+CommandRule (Check (Some key)) b a outcome = StreamRule text_form (signed_says key) b.streams a.streams outcome
+
+-- the command that the words list ends so
+abbrev pub Listed : List (List ℕ) → OutsideState → OutsideState → Outcome → Type 0
+Listed words b a outcome = (command : Command) × IsListed words command × CommandRule command b a outcome
+
+-- The words are refused and nothing is touched; or there was no memory to read them; or the command that they list ends so.
 abbrev pub EndRule : List (List ℕ) → OutsideState → OutsideState → Outcome → Type 0
 EndRule words b a WordsRefused = NotListed words × (a ≡ b)
-EndRule words b a outcome = (name : Name) × IsListed words name × StreamRule 8193 (answer_says name) b.streams a.streams outcome
+EndRule words b a Memory = (a ≡ b) ⊎ Listed words b a Memory
+EndRule words b a outcome = Listed words b a outcome
+
+-- the line of an outcome was written on the standard error, or a part of it before a failure
+abbrev pub Reports : Outcome → SinkState → SinkState → Type 0
+Reports outcome b a = Printed (line_of outcome) b a ⊎ PrintedPart (line_of outcome) b a
 
 -- A run ends in some way, with the status of that way, and its line on the standard error.
 abbrev pub RunRule : List (List ℕ) → OutsideState → OutsideState → SinkState → SinkState → ℕ → Type 0

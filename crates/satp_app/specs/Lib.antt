@@ -1,6 +1,7 @@
 pub mod Outside
 pub mod Outcomes
 pub mod Streams
-pub mod Words
+pub mod Texts
 pub mod Answer
+pub mod Check
 pub mod Commands

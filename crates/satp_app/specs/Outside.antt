@@ -1,5 +1,6 @@
 -- Everything outside of the program, as it stands: for each device its count of faults, and what it tells.
-use Rattle.std.specs.Prelude.{◌≡◌, ℕ, ◌<◌, ◌≤◌, List, ◌++◌, length, take, drop, Option, Some, IfSome}
+use Rattle.std.specs.Prelude.{◌≡◌, ℕ, ◌<◌, ◌≤◌, List, ◌++◌, length, take, drop, Option, Some, IfSome, Result, MatchResult}
+use Rattle.satp_base.specs.declared.stream.SinkFault.{SinkFault}
 use Rattle.satp_base.specs.Streams.{Rose}
 
 pub record SourceState : Type 0 where
@@ -50,3 +51,7 @@ Printed bytes b a = (a.faults ≡ b.faults) × IfSome b.taken (λ before. a.take
 -- a write failed, behind some of these bytes and before the last of them
 abbrev pub PrintedPart : List ℕ → SinkState → SinkState → Type 0
 PrintedPart bytes b a = Rose b.faults a.faults × ((k : ℕ) × (k < length bytes) × IfSome b.taken (λ before. a.taken ≡ Some (before ++ take k bytes)))
+
+-- what writing these bytes answers
+abbrev pub Says : List ℕ → SinkState → SinkState → Result (Unit {0}) SinkFault → Type 0
+Says bytes b a result = MatchResult result (λ _. Printed bytes b a) (λ _. PrintedPart bytes b a)

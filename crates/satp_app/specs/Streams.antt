@@ -1,46 +1,62 @@
--- A command that reads the input and prints lines.
-use Rattle.std.specs.Prelude.{◌≡◌, ◌⊎◌, ℕ, ◌+◌, List, take, Option, IfSome, Result, MatchResult, Ok, Err}
+-- A command that reads a text from the input and prints lines.
+use Rattle.std.specs.Prelude.{◌≡◌, ◌⊎◌, ℕ, ◌+◌, ◌<◌, ◌≤◌, List, length, take, Option, None, Some, IfSome, MatchOption, Result, MatchResult, Ok, Err}
+use Rattle.std.specs.Borrow.{Bor}
 use Rattle.satp_base.specs.Streams.{Rose}
-use Rattle.satp_app.specs.Outcomes.{line_of}
+use Rattle.satp_base.specs.declared.text.Memory as base
 use Rattle.satp_app.specs.Outside.{Printed, PrintedPart, ReadTo, ReadWithin, SinkState, SourceState, StreamsState}
 use Rattle.satp_app.specs.declared.outcome.Outcome.{Outcome}
-use Rattle.satp_app.specs.declared.outcome.Outcome.TheVariants.{Done, WordsRefused, NotReceiver, InputRefused, OtherKind, InputLong, Memory, InputFailed, OutputFailed}
+use Rattle.satp_app.specs.declared.outcome.Outcome.TheVariants.{Done, WordsRefused, InputLong, Refused, Memory, InputFailed, OutputFailed}
+use Rattle.satp_app.specs.declared.reply.Reply.{Reply}
+use Rattle.satp_app.specs.declared.reply.Reply.TheVariants.{Lines, Refuses}
 
--- what a command makes of its input: the lines that it prints, or how it ends
-pub data Reply : Type 0 where
-  Prints : List ℕ → Reply
-  Ends : Outcome → Reply
+-- what a command takes for the text on its input: of so many bytes at most, in an input of so many at most
+pub record Form : Type 0 where
+  pub longest : ℕ
+  pub most : ℕ
+  pub text_of : List ℕ → List ℕ
 
 -- the whole input, where it is told
 abbrev pub IsInput : SourceState → List ℕ → Type 0
 IsInput input bytes = IfSome input.left (λ told. bytes ≡ told)
 
--- How a command ends that makes of its input what `says` says.
--- The input is read to its end, or to the first byte past `most`; then the lines are printed.
-abbrev pub StreamRule : ℕ → (List ℕ → Reply → Type 0) → StreamsState → StreamsState → Outcome → Type 0
-StreamRule most says b a Done = ReadTo (most + 1) b.input a.input × ((bytes lines : List ℕ) × IsInput b.input bytes × says bytes (Prints lines) × Printed lines b.out a.out)
-StreamRule most says b a OutputFailed = ReadTo (most + 1) b.input a.input × ((bytes lines : List ℕ) × IsInput b.input bytes × says bytes (Prints lines) × PrintedPart lines b.out a.out)
-StreamRule most says b a InputFailed = Rose b.input.faults a.input.faults × ReadWithin (most + 1) b.input a.input × (a.out ≡ b.out)
-StreamRule most says b a Memory = (a.input.faults ≡ b.input.faults) × ReadWithin (most + 1) b.input a.input × (a.out ≡ b.out)
-StreamRule most says b a outcome = ReadTo (most + 1) b.input a.input × ((bytes : List ℕ) × IsInput b.input bytes × says bytes (Ends outcome)) × (a.out ≡ b.out)
+-- an input whose text is no longer than the command reads, and what it says of that text
+pub record Replies (form : Form) (says : List ℕ → Reply → Type 0) (b : StreamsState) (reply : Reply) : Type 0 where
+  pub bytes : List ℕ
+  pub is_input : IsInput b.input bytes
+  pub short : length (form.text_of bytes) ≤ form.longest
+  pub said : says (form.text_of bytes) reply
+
+-- an input whose text is longer
+pub record IsLong (form : Form) (b : StreamsState) : Type 0 where
+  pub bytes : List ℕ
+  pub is_input : IsInput b.input bytes
+  pub long : form.longest < length (form.text_of bytes)
+
+-- How a command ends that replies to the text on its input as `says` says.
+-- The input is read to its end, or to the first byte past the most; then the lines are printed.
+abbrev pub StreamRule : Form → (List ℕ → Reply → Type 0) → StreamsState → StreamsState → Outcome → Type 0
+StreamRule form says b a Done = ReadTo (form.most + 1) b.input a.input × ((lines : List ℕ) × Replies form says b (Lines lines) × Printed lines b.out a.out)
+StreamRule form says b a OutputFailed = ReadTo (form.most + 1) b.input a.input × ((lines : List ℕ) × Replies form says b (Lines lines) × PrintedPart lines b.out a.out)
+StreamRule form says b a (Refused refusal) = ReadTo (form.most + 1) b.input a.input × Replies form says b (Refuses refusal) × (a.out ≡ b.out)
+StreamRule form says b a InputLong = ReadTo (form.most + 1) b.input a.input × IsLong form b × (a.out ≡ b.out)
+StreamRule form says b a InputFailed = Rose b.input.faults a.input.faults × ReadWithin (form.most + 1) b.input a.input × (a.out ≡ b.out)
+StreamRule form says b a Memory = (a.input.faults ≡ b.input.faults) × ReadWithin (form.most + 1) b.input a.input × (a.out ≡ b.out)
+StreamRule form says b a WordsRefused = ⊥
 
 -- ---- its parts
 
 -- what reading the input answers
 abbrev pub ReadRule : ℕ → SourceState → SourceState → Result (List ℕ) Outcome → Type 0
 ReadRule most b a result = MatchResult result
-    (λ text. ReadTo (most + 1) b a × IfSome b.left (λ bytes. text ≡ take (most + 1) bytes))
+    (λ bytes. ReadTo (most + 1) b a × IfSome b.left (λ told. bytes ≡ take (most + 1) told))
     (λ outcome. ReadWithin (most + 1) b a × (((outcome ≡ InputFailed) × Rose b.faults a.faults) ⊎ ((outcome ≡ Memory) × (a.faults ≡ b.faults))))
 
--- what a command makes of the text that was read
-abbrev pub ReplyRule : (List ℕ → Reply → Type 0) → List ℕ → Result (List ℕ) Outcome → Type 0
-ReplyRule says text result = MatchResult result (λ lines. says text (Prints lines)) (λ outcome. (outcome ≡ Memory) ⊎ says text (Ends outcome))
+-- the text on what was read
+abbrev pub TextRule : Form → List ℕ → Option (Bor (List ℕ)) → Type 0
+TextRule form bytes result = MatchOption result (form.longest < length (form.text_of bytes)) (λ text. (text.now ≡ form.text_of bytes) × (length text.now ≤ form.longest))
 
--- the lines are printed; where there are none, nothing is
-abbrev pub Concluded : Result (List ℕ) Outcome → SinkState → SinkState → Outcome → Type 0
-Concluded (Ok lines) b a outcome = ((outcome ≡ Done) × Printed lines b a) ⊎ ((outcome ≡ OutputFailed) × PrintedPart lines b a)
-Concluded (Err reason) b a outcome = (outcome ≡ reason) × (a ≡ b)
-
--- the line of an outcome was written, or a part of it before a failure
-abbrev pub Reports : Outcome → SinkState → SinkState → Type 0
-Reports outcome b a = Printed (line_of outcome) b a ⊎ PrintedPart (line_of outcome) b a
+-- the lines of the reply are printed; where there are none, nothing is
+abbrev pub Concluded : Result Reply base.Memory → SinkState → SinkState → Outcome → Type 0
+Concluded (Ok (Lines lines)) b a outcome = ((outcome ≡ Done) × Printed lines b a) ⊎ ((outcome ≡ OutputFailed) × PrintedPart lines b a)
+Concluded (Ok (Refuses refusal)) b a outcome = (outcome ≡ Refused refusal) × (a ≡ b)
+Concluded (Err memory) b a outcome = (outcome ≡ Memory) × (a ≡ b)

@@ -1,22 +1,18 @@
 ghost use Rattle.std.specs.Prelude.{◌≡◌, IfOk};
-ghost use Rattle.satp_app.specs.Answer.{Answers, Due, answer_says, terms_proposed, without_newline};
+ghost use Rattle.satp_app.specs.Answer.{Answers, Due, answer_says, terms_proposed};
 ghost use Rattle.satp_app.specs.Outside.{sink, source, streams};
-ghost use Rattle.satp_app.specs.Streams.{ReplyRule, StreamRule};
+ghost use Rattle.satp_app.specs.Streams.{StreamRule};
+ghost use Rattle.satp_app.specs.Texts.{text_form};
 
-use crate::outcome::Outcome;
-use crate::streams::{conclude, read_to};
+use crate::outcome::{Outcome, Refusal};
+use crate::reply::Reply;
+use crate::streams::{LONGEST_INPUT, conclude, read_to, text_on};
 use satp_base::{
     Body, Kind, Memory, Message, Name, Next, Part, Rec, Role, Sink, Source, Terms, Text, View,
 };
 use satp_canon::{CanonFault, link_of, read, write};
 use satp_recipient::next;
 use std::alloc::Global;
-
-/// The longest canonical text.
-const LONGEST_TEXT: usize = 8192;
-
-/// The longest input: a text and a newline.
-const LONGEST_INPUT: usize = 8193;
 
 /// Reads a proposal for the gateway of this name and prints its receipt.
 pub(crate) fn answer<I: Source, K: Sink>(
@@ -25,39 +21,38 @@ pub(crate) fn answer<I: Source, K: Sink>(
     input: &mut I,
     out: &mut K,
 ) -> Outcome
-    ensures { StreamRule 8193 (answer_says name)
+    ensures { StreamRule text_form (answer_says name)
         (streams (source I.faults I.left input.old) (sink K.faults K.taken out.old))
         (streams (source I.faults I.left input.new) (sink K.faults K.taken out.new))
         result }
 {
     match read_to(alloc, input, LONGEST_INPUT) {
-        Ok(text) => conclude(out, reply(alloc, name, text.bytes())),
+        Ok(held) => match text_on(held.bytes()) {
+            Some(text) => conclude(out, reply(alloc, name, text)),
+            None => Outcome::InputLong,
+        },
         Err(outcome) => outcome,
     }
 }
 
-/// The line that answers an input.
-fn reply(alloc: Global, name: Name, input: &[u8]) -> Result<Text, Outcome>
-    ensures { ReplyRule (answer_says name) input.now result }
+/// The reply to a text.
+fn reply(alloc: Global, name: Name, text: &[u8]) -> Result<Reply, Memory>
+    ensures { IfOk result (answer_says name text.now) }
 {
-    let text = trimmed(input);
-    if text.len() > LONGEST_TEXT {
-        return Err(Outcome::InputLong);
-    }
-    let proposal = match read(alloc, text) {
-        Ok(proposal) => proposal,
-        Err(CanonFault::Memory) => return Err(Outcome::Memory),
-        Err(_) => return Err(Outcome::InputRefused),
+    let message = match read(alloc, text) {
+        Ok(message) => message,
+        Err(CanonFault::Memory) => return Err(Memory),
+        Err(fault) => return Ok(Reply::Refuses(Refusal::Text(fault))),
     };
-    let Some(terms) = terms_proposed(&proposal) else {
-        return Err(Outcome::OtherKind);
+    let Some(terms) = terms_proposed(&message) else {
+        return Ok(Reply::Refuses(Refusal::Kind));
     };
-    if proposal.receiver != name {
-        return Err(Outcome::NotReceiver);
+    if message.receiver != name {
+        return Ok(Reply::Refuses(Refusal::Receiver));
     }
-    match receipt_line(alloc, name, terms, &proposal, text) {
-        Ok(line) => Ok(line),
-        Err(Memory) => Err(Outcome::Memory),
+    match receipt_line(alloc, name, terms, &message, text) {
+        Ok(line) => Ok(Reply::Lines(line)),
+        Err(Memory) => Err(Memory),
     }
 }
 
@@ -108,15 +103,4 @@ fn receipt_line(
     let mut line = write(alloc, &receipt)?;
     line.append(b"\n")?;
     Ok(line)
-}
-
-/// The bytes less one final newline.
-fn trimmed(bytes: &[u8]) -> &[u8]
-    ensures { result.now ≡ without_newline bytes.now }
-{
-    if !bytes.is_empty() && bytes[bytes.len() - 1] == b'\n' {
-        &bytes[..bytes.len() - 1]
-    } else {
-        bytes
-    }
 }

@@ -5,12 +5,15 @@
 #![tactic(auto)]
 
 mod answer_command;
+mod check_command;
 mod outcome;
+mod reply;
+mod report;
 mod streams;
 #[cfg(test)]
 mod tests;
 mod top;
-mod words;
 
-pub use outcome::Outcome;
+pub use outcome::{Outcome, Refusal};
+pub use reply::Reply;
 pub use top::run;

@@ -1,13 +1,21 @@
-ghost use Rattle.std.specs.Prelude.{◌≡◌, ◌<◌, ◌^◌, MatchResult};
-ghost use Rattle.satp_app.specs.Outside.{Printed, PrintedPart, sink, source};
-ghost use Rattle.satp_app.specs.Streams.{Concluded, ReadRule};
+ghost use Rattle.std.specs.Prelude.{◌≡◌, ◌<◌, ◌^◌};
+ghost use Rattle.satp_app.specs.Outside.{Says, sink, source};
+ghost use Rattle.satp_app.specs.Streams.{Concluded, ReadRule, TextRule};
+ghost use Rattle.satp_app.specs.Texts.{text_form, without_newline};
 
 use crate::outcome::Outcome;
-use satp_base::{Sink, SinkFault, Source, Text};
+use crate::reply::Reply;
+use satp_base::{Memory, Sink, SinkFault, Source, Text};
 use std::alloc::Global;
 
 /// How much is read at once.
 const CHUNK: usize = 1024;
+
+/// The longest canonical text, and the longest JWS of one that a command reads.
+const LONGEST_TEXT: usize = 8192;
+
+/// The longest input of a command that reads a text: the text and a newline.
+pub(crate) const LONGEST_INPUT: usize = 8193;
 
 /// Reads the input to its end, or to the first byte past the limit.
 pub(crate) fn read_to<I: Source>(alloc: Global, input: &mut I, most: usize) -> Result<Text, Outcome>
@@ -33,11 +41,32 @@ pub(crate) fn read_to<I: Source>(alloc: Global, input: &mut I, most: usize) -> R
     Ok(text)
 }
 
+/// The text on an input: its bytes less one final newline. None where it is longer than a command reads.
+pub(crate) fn text_on(input: &[u8]) -> Option<&[u8]>
+    ensures { TextRule text_form input.now result }
+{
+    let text = without_newline(input);
+    if text.len() > LONGEST_TEXT {
+        None
+    } else {
+        Some(text)
+    }
+}
+
+/// The bytes less one final newline.
+fn without_newline(bytes: &[u8]) -> &[u8]
+    ensures { result.now ≡ without_newline bytes.now }
+{
+    if !bytes.is_empty() && bytes[bytes.len() - 1] == b'\n' {
+        &bytes[..bytes.len() - 1]
+    } else {
+        bytes
+    }
+}
+
 /// Writes all the bytes, piece by piece, up to the first write that fails.
 pub(crate) fn say<K: Sink>(out: &mut K, bytes: &[u8]) -> Result<(), SinkFault>
-    ensures { MatchResult result
-        (λ _. Printed bytes.now (sink K.faults K.taken out.old) (sink K.faults K.taken out.new))
-        (λ _. PrintedPart bytes.now (sink K.faults K.taken out.old) (sink K.faults K.taken out.new)) }
+    ensures { Says bytes.now (sink K.faults K.taken out.old) (sink K.faults K.taken out.new) result }
 {
     let mut done = 0;
     while done < bytes.len() {
@@ -49,15 +78,16 @@ pub(crate) fn say<K: Sink>(out: &mut K, bytes: &[u8]) -> Result<(), SinkFault>
     Ok(())
 }
 
-/// Ends a command that made this reply of its input: prints the lines, or passes on why there are none.
-pub(crate) fn conclude<K: Sink>(out: &mut K, reply: Result<Text, Outcome>) -> Outcome
+/// Ends a command that made this reply of its input.
+pub(crate) fn conclude<K: Sink>(out: &mut K, reply: Result<Reply, Memory>) -> Outcome
     ensures { Concluded reply (sink K.faults K.taken out.old) (sink K.faults K.taken out.new) result }
 {
     match reply {
-        Ok(lines) => match say(out, lines.bytes()) {
+        Ok(Reply::Lines(lines)) => match say(out, lines.bytes()) {
             Ok(()) => Outcome::Done,
             Err(SinkFault) => Outcome::OutputFailed,
         },
-        Err(outcome) => outcome,
+        Ok(Reply::Refuses(refusal)) => Outcome::Refused(refusal),
+        Err(Memory) => Outcome::Memory,
     }
 }

@@ -1,7 +1,7 @@
 -- Pieces joined by commas, one more at a time.
 use Rattle.std.proofs.lemmas.Bool.{ne_eqb}
 use Rattle.satp_canon.specs.Commas.{comma_at}
-use Rattle.std.proofs.Common.{Bool, ◌≡◌, ℕ, zero, suc, ◌+◌, ◌<◌, ◌==◌, cond, List, [], ◌∷◌, ◌++◌, length, map, take, get_or, refl, ap, subst, sym, ◌∙◌, arith, append_assoc, add-one, append-nil}
+use Rattle.std.proofs.Common.{Bool, ◌≡◌, ℕ, zero, suc, ◌+◌, ◌<◌, cond, List, [], ◌∷◌, ◌++◌, length, map, take, get_or, refl, ap, sym, ◌∙◌, arith, append_assoc}
 use Rattle.std.specs.List.{join_with_byte}
 
 later : (i : ℕ) → comma_at (suc i) ≡ 44 ∷ []

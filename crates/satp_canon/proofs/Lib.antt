@@ -1,4 +1,12 @@
 pub mod Links
 pub mod Joined
-pub mod Found
-pub mod Compact
+pub mod Founds
+pub mod Firsts
+pub mod Rows
+pub mod EntryLemmas
+pub mod CommonLemmas
+pub mod CompactTexts
+pub mod OwnData
+pub mod NoFault
+pub mod WrittenText
+pub mod ReadFaults

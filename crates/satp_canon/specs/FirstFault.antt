@@ -1,16 +1,19 @@
 -- The first fault of bytes that are to be a canonical text, over the JSON value that `serde_json` reads from them.
-use Rattle.std.specs.Prelude.{ℕ, suc, ◌+◌, ◌&&◌, ◌==◌, Bool, true, false, not, List, [], ◌∷◌, ◌++◌, length, map, filter, fold, codes, decimal, nat_le, nat_lt, if◌then◌else◌, Option, Some, None, is_some, is_none, flat_map, option_and_then, option_map, slice_index, position}
+use Rattle.std.specs.Prelude.{ℕ, ◌+◌, ◌&&◌, ◌==◌, Bool, false, not, List, [], ◌∷◌, ◌++◌, length, map, filter, fold, codes, nat_le, nat_lt, if◌then◌else◌, Option, Some, None, Result, Ok, Err, is_some, is_none, flat_map, option_and_then, option_map}
 use Rattle.std.specs.List.{list_all, list_any}
 use Rattle.std.specs.Option.{option_map_or}
 use Rattle.std.specs.Ordering.{nat_cmp, match_ordering}
 use Rattle.std.specs.Cmp.Lexicographic.{slice_cmp}
 use Rattle.std.specs.Str.{bytes_eq, is_utf8}
-use Rattle.serde_json.specs.Data.{Data, null, boolean, number, string, array, object, Items, no_items, item, Members, no_members, member}
+use Rattle.base64.specs.Engines.{url_safe_no_pad}
+use Rattle.base64.specs.GeneralPurpose.{decode_of}
+use Rattle.base64.specs.declared.decode.DecodeError.{DecodeError}
+use Rattle.serde_json.specs.Data.{Data, Items, no_items, item, Members, no_members, member}
 use Rattle.serde_json.specs.Find.{as_array, as_number, as_object, as_str, as_u64, get}
 use Rattle.serde_json.specs.Read.{read}
 use Rattle.serde_json.specs.Written.{compact_text}
 use Rattle.satp_base.specs.Canonical as canon
-use Rattle.satp_base.specs.Canonical.{base64url, kind_named, member_named, member_text, reason_named, row, terms_row}
+use Rattle.satp_base.specs.Canonical.{kind_named, member_named, member_text, reason_named, row, terms_row}
 use Rattle.satp_base.specs.Faults.{name_fault, session_fault}
 use Rattle.satp_base.specs.Forms.{is_entry}
 use Rattle.satp_base.specs.Numbers.{greatest_amount}
@@ -75,12 +78,13 @@ holds_text test found = option_map_or test (text_in found) false
 abbrev pub is_within : ℕ → ℕ → ℕ → Bool
 is_within low high n = nat_le low n && nat_le n high
 
-abbrev pub is_symbol : ℕ → Bool
-is_symbol b = list_any (λ s. s == b) base64url
+abbrev pub are_32 : Result (List ℕ) DecodeError → Bool
+are_32 (Ok bytes) = length bytes == 32
+are_32 (Err e) = false
 
--- the base64url of 32 bytes: 43 symbols, of which the last has two bits that are zero (RFC 4648, section 3.5)
+-- the base64url of 32 bytes, without padding and with zero trailing bits (RFC 4648, sections 3.5 and 5)
 abbrev pub is_link : List ℕ → Bool
-is_link text = (length text == 43) && list_all is_symbol text && list_any (λ s. s == slice_index text 42) (codes "AEIMQUYcgkosw048")
+is_link text = are_32 (decode_of url_safe_no_pad text)
 
 abbrev pub item_list : Items → List Data
 item_list no_items = []
@@ -146,9 +150,17 @@ data_fault d = option_map_or (λ v. kind_fault d (option_and_then kind_named (as
 
 -- ---- the text
 
+-- the terms, in their order
+abbrev pub written_field : Data → MemberName → canon.Member
+written_field d n = (member_text n, option_map_or compact_text (get (member_text n) d) [])
+
+abbrev pub written_value : MemberName → Data → List ℕ
+written_value name.Terms d = canon.object (map (written_field d) terms_row)
+written_value n d = compact_text d
+
 -- the members of the kind, in their order, with the values that were read
 abbrev pub written_member : Data → MemberName → canon.Member
-written_member d n = (member_text n, option_map_or compact_text (get (member_text n) d) [])
+written_member d n = (member_text n, option_map_or (written_value n) (get (member_text n) d) [])
 
 abbrev pub written_as : Kind → Data → List ℕ
 written_as k d = canon.object (map (written_member d) (row k))

@@ -1,4 +1,3 @@
 pub mod Commas
 pub mod FirstFault
 pub mod Reads
-pub mod Proposals

@@ -1,12 +1,17 @@
 //! The canonical texts of messages.
 #![tactic(auto)]
 
+mod entries;
 mod fault;
 mod link;
+mod members;
+mod messages;
+mod names;
 mod reader;
 mod row;
 #[cfg(test)]
 mod tests;
+mod values;
 mod writer;
 
 pub use fault::CanonFault;

@@ -11,7 +11,7 @@ use crate::open::{mend, read_synced};
 use crate::scan::{Scanned, scan};
 use crate::stock::Stock;
 use crate::store::store;
-use satp_base::{Area, Disk};
+use satp_base::{Area, Disk, Memory};
 use std::alloc::Global;
 use std::marker::Model;
 
@@ -81,8 +81,8 @@ impl Journal {
         }
     }
 
-    /// Finds memory for so many further records, and for so many bytes of their payloads together.
-    pub fn reserve(&mut self, records: usize, bytes: usize) -> Result<(), JournalFault>
+    /// Finds memory for so many further records, and for so many bytes of their payloads together. An append takes one record and its payload's bytes of it.
+    pub fn reserve(&mut self, records: usize, bytes: usize) -> Result<(), Memory>
         ensures same { self.new.held ≡ self.old.held }
         ensures records { OnOk result (records ≤ self.new.spare_records) }
         ensures bytes { OnOk result (bytes ≤ self.new.spare_bytes) }

@@ -1,2 +1,6 @@
 pub mod Calling
 pub mod Streaming
+pub mod Areas
+pub mod Disk
+pub mod Plain
+pub mod Steps

@@ -1,4 +1,6 @@
-ghost use Rattle.std.specs.Prelude.{◌≡◌, ◌≤◌, OnOk, OnErr};
+ghost use Rattle.std.specs.Prelude.{◌≡◌, ◌≤◌, true, OnOk, OnErr};
+ghost use Rattle.satp_base.specs.Calls.{risen};
+ghost use Rattle.satp_base.specs.Streams.{Rose};
 ghost use Rattle.satp_memory.specs.Calling.{fresh, is_due, naming, stepped, wanting};
 
 use satp_base::Memory;
@@ -47,6 +49,8 @@ impl Calls {
     pub fn begin(&mut self) -> bool
         ensures due { result ≡ is_due self.old }
         ensures counted { self.new ≡ stepped self.old }
+        ensures told { self.new.count ≡ risen self.old.count 1 }
+        ensures rose { result ≡ true → Rose self.old.faults self.new.faults }
         ensures later { self.old.faults ≤ self.new.faults }
     {
         let due = self.count < u64::MAX && self.named.contains(&(self.count + 1));
@@ -60,6 +64,7 @@ impl Calls {
     /// Counts a fault of a call that found no memory.
     pub fn want(&mut self)
         ensures counted { self.new ≡ wanting self.old }
+        ensures rose { Rose self.old.faults self.new.faults }
         ensures later { self.old.faults ≤ self.new.faults }
     {
         self.faults = self.faults.saturating_add(1);

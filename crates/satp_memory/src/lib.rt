@@ -1,9 +1,15 @@
 //! Devices in memory: they tell all, and can be made to fail.
 #![tactic(auto)]
 
+mod areas;
 mod calls;
+mod copy;
+mod disk;
 mod sink;
 mod source;
+#[cfg(test)]
+mod tests;
 
+pub use disk::MemDisk;
 pub use sink::MemSink;
 pub use source::MemSource;

@@ -1,6 +1,6 @@
 use Rattle.std.proofs.Common.{◌≡◌, ◌∙◌, ◌+◌, ◌≤◌, ℕ, List, length, length-drop, subst, arith}
 use Rattle.satp_base.specs.Streams.{Gains}
-use Rattle.satp_app.proofs.Writing.{rest_of, wrote_all, wrote_more, wrote_same}
+use Rattle.satp_app.proofs.Writing.{rest_of, wrote_more}
 use Rattle.satp_app.proofs.streams.say.Goals as goal
 
 pub loop-done-preserved : goal.loop-done-preserved

@@ -1,30 +1,31 @@
-use Rattle.std.proofs.Common.{◌∙◌, sym, subst, Some, None}
+use Rattle.std.proofs.Common.{inr, arith}
 use Rattle.std.proofs.lemmas.Bool.{both_ways}
-use Rattle.satp_base.specs.Canonical.{IsText}
-use Rattle.satp_base.specs.declared.message.Message.{Message}
 use Rattle.serde_json.specs.View.{view}
-use Rattle.satp_canon.proofs.Compact.{is_message, is_read, same_bytes, seen}
-use Rattle.satp_canon.proofs.Found.{none_found}
+use Rattle.satp_canon.proofs.ReadFaults.{compared_fault, long_fault, made, not_json, only_memory, only_one, values_first}
 use Rattle.satp_canon.proofs.reader.read.Goals as goal
 
-pub returns-in-Err-2-clause-all : goal.returns-in-Err-2-clause-all
-returns-in-Err-2-clause-all c m good e short =
-    let r = is_read m c.args.text.now good e in
-    none_found _ (sym (c.in-Err.ensures.err (λ memory. both_ways _ c.if-is_memory.false (c.is_memory.ensures.1 memory)) r.utf8) ∙ r.value)
+pub returns-then-text-gt-LONGEST-clause-fault : goal.returns-then-text-gt-LONGEST-clause-fault
+returns-then-text-gt-LONGEST-clause-fault c = inr (long_fault c.args.text.now (omega arith))
 
-pub returns-in_default-clause-all : goal.returns-in_default-clause-all
-returns-in_default-clause-all c m good e short =
-    let r = is_read m c.args.text.now good e in
-    none_found m (seen m c.args.text.now r (view c.in-Ok.value) None c.in-Ok.ensures.ok.1 c.in_default.ensures.all)
+pub returns-in-Err-2-clause-fault : goal.returns-in-Err-2-clause-fault
+returns-in-Err-2-clause-fault c = inr (not_json c.args.text.now (omega arith) (λ utf8. c.in-Err.ensures.err (λ memory. both_ways _ c.if-is_memory.false (c.is_memory.ensures.1 memory)) utf8))
 
-pub returns-then-eq-clause-all : goal.returns-then-eq-clause-all
-returns-then-eq-clause-all c m good e short =
-    let r = is_read m c.args.text.now good e in
-    is_message c.in-Some.message m (seen m c.args.text.now r (view c.in-Ok.value) (Some c.in-Some.message) c.in-Ok.ensures.ok.1 c.in-Some.ensures.all)
+pub returns-in-Err-2-clause-complete : goal.returns-in-Err-2-clause-complete
+returns-in-Err-2-clause-complete c m = only_memory m c.args.text.now _ (inr (not_json c.args.text.now (omega arith) (λ utf8. c.in-Err.ensures.err (λ memory. both_ways _ c.if-is_memory.false (c.is_memory.ensures.1 memory)) utf8)))
 
-pub returns-clause-all : goal.returns-clause-all
-returns-clause-all c m good e short =
-    let r = is_read m c.args.text.now good e in
-    let same = is_message c.in-Some.message m (seen m c.args.text.now r (view c.in-Ok.value) (Some c.in-Some.message) c.in-Ok.ensures.ok.1 c.in-Some.ensures.all) in
-    let again : IsText m c.in-Ok-write.again = subst (λ (x : Message). IsText x c.in-Ok-write.again) same c.in-Ok-write.ensures in
-    absurd (both_ways _ c.if-eq.false (c.eq.ensures ∙ same_bytes _ _ (c.bytes.ensures ∙ again ∙ sym e)))
+pub returns-in-Ok-message_of-clause-fault : goal.returns-in-Ok-message_of-clause-fault
+returns-in-Ok-message_of-clause-fault c =
+    let e = c.in-Ok-message_of.ensures in
+    compared_fault c.compared.result c.args.text.now (view c.in-Ok.value) c.in-Ok-message_of.message (omega arith) c.in-Ok.ensures.ok.0 c.in-Ok.ensures.ok.1 e.fine e.message e.reads c.compared.ensures.same c.compared.ensures.other
+
+pub returns-in-Ok-message_of-clause-complete : goal.returns-in-Ok-message_of-clause-complete
+returns-in-Ok-message_of-clause-complete c =
+    let e = c.in-Ok-message_of.ensures in
+    only_one c.compared.result c.args.text.now (made c.compared.result c.in-Ok-message_of.message c.args.text.now e.message c.compared.ensures.same)
+    (compared_fault c.compared.result c.args.text.now (view c.in-Ok.value) c.in-Ok-message_of.message (omega arith) c.in-Ok.ensures.ok.0 c.in-Ok.ensures.ok.1 e.fine e.message e.reads c.compared.ensures.same c.compared.ensures.other)
+
+pub returns-clause-fault : goal.returns-clause-fault
+returns-clause-fault c = values_first c.args.text.now (view c.in-Ok.value) _ (omega arith) c.in-Ok.ensures.ok.0 c.in-Ok.ensures.ok.1 c.in-Err-message_of.ensures.fault
+
+pub returns-clause-complete : goal.returns-clause-complete
+returns-clause-complete c m = only_memory m c.args.text.now _ (values_first c.args.text.now (view c.in-Ok.value) _ (omega arith) c.in-Ok.ensures.ok.0 c.in-Ok.ensures.ok.1 c.in-Err-message_of.ensures.fault)

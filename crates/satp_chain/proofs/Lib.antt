@@ -1,0 +1,2 @@
+mod ChainedLemmas
+mod LawLemmas

@@ -1,0 +1,10 @@
+//! Theorems on chains. They stand over definitions alone and make no call.
+
+ghost use Rattle.satp_chain.specs.ChainLaws.{FrontsAreChains, OneListOfParts, OneListOfTexts};
+
+/// The parts of a chain determine its texts, and its texts its parts; and every front of a chain is a chain.
+pub fn law_chains()
+    ensures texts { OneListOfTexts }
+    ensures parts { OneListOfParts }
+    ensures fronts { FrontsAreChains }
+{}

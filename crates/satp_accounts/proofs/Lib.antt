@@ -1,0 +1,4 @@
+pub mod OwnerLemmas
+pub mod StepLemmas
+pub mod SumLemmas
+pub mod BeginLemmas

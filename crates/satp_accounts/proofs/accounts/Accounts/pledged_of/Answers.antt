@@ -1,0 +1,10 @@
+use Rattle.std.proofs.Common.{◌≡◌, ◌∙◌, arith, sym}
+use Rattle.satp_accounts.specs.Books.{book_of}
+use Rattle.satp_accounts.proofs.SumLemmas.{pledged_fits, pledged_is}
+use Rattle.satp_accounts.proofs.accounts.Accounts.pledged_of.Goals as goal
+
+pub overflow_add-sum : goal.overflow_add-sum
+overflow_add-sum c = omega (arith, c.pledged_part-sum.ensures, pledged_fits (book_of c.args.self.now) c.args.self.now.entries.entries c.loop-kept.kept-iterator c.next.new.self c.args.asset _ c.loop-kept.sum _ _ c.args.self.now.agrees c.iter-kept-items.ensures.ordered c.in-Some.ensures.steps c.loop-kept.invariant.2)
+
+pub returns : goal.returns
+returns c = pledged_is (book_of c.args.self.now) c.args.self.now.entries.entries c.loop-kept.kept-iterator c.args.asset c.loop-kept.sum c.iter-kept-items.ensures.ordered c.in-None.ensures.steps.0 c.loop-kept.invariant.2

@@ -1,0 +1,4 @@
+pub mod Owners
+pub mod Steps
+pub mod Copies
+pub mod Books

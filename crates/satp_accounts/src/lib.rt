@@ -1,0 +1,11 @@
+//! The ledger that keeps what each owner is free to use.
+#![tactic(auto)]
+
+mod accounts;
+mod begin;
+mod owned;
+mod table;
+#[cfg(test)]
+mod tests;
+
+pub use accounts::Accounts;

@@ -1,7 +1,7 @@
 -- Ordered maps as finite maps.
-use Rattle.std.proofs.Common.{◌≡◌, ◌&&◌, List, [], ◌∷◌, Bool, true, false, cond, Option, Some, None, refl, ap, sym, subst, ◌∙◌}
+use Rattle.std.proofs.Common.{◌≡◌, List, [], ◌∷◌, cond, Option, Some, None, refl, ap, sym, ◌∙◌}
 use Rattle.std.specs.Cmp.{IsTotalOrder, eq_by_cmp_equiv}
-use Rattle.std.specs.FinMap.{FinMap, IsAntisymmetric, empty, entries, entries-insert, from_entries, insert, get, get-empty, get-entries, get-from_entries, get-insert, put, same_map}
+use Rattle.std.specs.FinMap.{IsAntisymmetric, empty, entries, entries-insert, from_entries, insert, get, get-empty, get-entries, get-from_entries, get-insert, put, same_map}
 use Rattle.std.specs.FinMap.Entries.{by_order}
 use Rattle.std.specs.List.Sorted.{IsStrictlySortedBy}
 use Rattle.std.specs.FinMap.Entries.{find}

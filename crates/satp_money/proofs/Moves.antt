@@ -1,15 +1,12 @@
 -- What an operation does to the money of a ledger.
-use Rattle.std.proofs.Common.{◌≡◌, ◌⊎◌, inl, inr, ℕ, ◌+◌, ◌-◌, ◌≤◌, ◌&&◌, Bool, true, false, cond, Option, Some, None, refl, ap, subst, sym, ◌∙◌, arith}
+use Rattle.std.proofs.Common.{◌≡◌, ℕ, ◌+◌, ◌-◌, ◌≤◌, ◌&&◌, Bool, true, false, refl, ap, subst, sym, arith}
 use Rattle.std.specs.Prelude.{unwrap_or}
 use Rattle.satp_base.specs.Founding.{counted, equal_names}
-use Rattle.satp_base.specs.Ledgers.{Entries}
-use Rattle.satp_base.specs.LedgerRule.{Allows, LedgerRule, RuleOn, entry_of, leads, moved, result_of, terms_of}
-use Rattle.satp_base.specs.Money.{Book, cap_of, free_of, free_sum_of, given, given_to_all, held, held_of_all, is_given, is_pledged, is_taken, pledged, sum_entries, taken, taken_of_all, total_of}
+use Rattle.satp_base.specs.LedgerRule.{entry_of, leads, moved, result_of, terms_of}
+use Rattle.satp_base.specs.Money.{Book, cap_of, free_of, free_sum_of, given, given_to_all, is_given, is_pledged, is_taken, pledged, sum_entries, taken, taken_of_all, total_of}
 use Rattle.satp_base.specs.Soundness.{IsSound}
-use Rattle.satp_base.specs.declared.ledger.Answer.{Answer}
-use Rattle.satp_base.specs.declared.ledger.Answer.TheVariants.{Done, NoFunds, UnknownAsset, Capped, Taken}
 use Rattle.satp_base.specs.declared.ledger.Entry.{Entry}
-use Rattle.satp_base.specs.declared.ledger.Entry.TheVariants.{Absent, Locked, Burnt, Minted, Assigned, Released}
+use Rattle.satp_base.specs.declared.ledger.Entry.TheVariants.{Absent, Locked, Minted, Assigned}
 use Rattle.satp_base.specs.declared.ledger.LedgerOp.{LedgerOp}
 use Rattle.satp_base.specs.declared.ledger.LedgerOp.TheVariants.{Lock, Burn, Mint, Assign, Release}
 use Rattle.satp_base.specs.declared.message.Terms.{Terms}
@@ -17,7 +14,7 @@ use Rattle.satp_base.specs.declared.name.Name.{Name}
 use Rattle.satp_base.specs.declared.session.SessionId.{SessionId}
 use Rattle.satp_base.proofs.GenesisLemmas.{equal_name}
 use Rattle.satp_money.specs.Amounts.{Agrees}
-use Rattle.satp_money.proofs.Counting.{reached, standing, sum_moved}
+use Rattle.satp_money.proofs.Counting.{sum_moved}
 
 -- ---- the lines of the table
 

@@ -11,5 +11,7 @@ first_amounts-requires c = within_caps c.args.genesis.now _ c.in_ok-holds.ensure
 
 pub invariant_of-result : goal.invariant_of-result
 invariant_of-result c =
-    record { agrees = begun c.args.genesis.now c.in_ok-assets.assets.items c.in_ok-holds.holds.items c.new.result.entries _ c.in_ok-holds.ensures.valid c.in_ok-assets.ensures c.in_ok-holds.ensures.items c.new.ensures.empty
-        (subst (λ (holds : List Hold). IsHeld holds (from_entries c.in_ok-amounts.amounts.entries)) c.deref.ensures.value c.in_ok-amounts.ensures) }
+    record {
+      agrees = begun c.args.genesis.now c.in_ok-assets.assets.items c.in_ok-holds.holds.items c.new.result.entries _ c.in_ok-holds.ensures.valid c.in_ok-assets.ensures c.in_ok-holds.ensures.items c.new.ensures.empty
+          (subst (λ (holds : List Hold). IsHeld holds (from_entries c.in_ok-amounts.amounts.entries)) c.deref.ensures.value c.in_ok-amounts.ensures);
+    }

@@ -10,6 +10,7 @@ use crate::amount::Amount;
 use crate::fields::cut_field;
 use crate::lines::{AddFault, LineReader, LinesFault, read_lines};
 use crate::name::Name;
+use crate::text::Memory;
 use std::alloc::Global;
 use std::marker::Model;
 
@@ -140,7 +141,7 @@ fn read_line(line: &[u8]) -> Option<Line>
 }
 
 impl Genesis {
-    ghost use Rattle.std.specs.Prelude.{◌≡◌, [], Err, OnOk, OnErr, MatchResult, slice_get};
+    ghost use Rattle.std.specs.Prelude.{◌≡◌, [], Err, IfOk, OnOk, OnErr, MatchResult, slice_get};
     ghost use Rattle.satp_base.specs.Lines.{Fails, IsLines};
     ghost use Rattle.satp_base.specs.GenesisText.{AcceptsLine, most_bytes, nothing};
     ghost use Rattle.satp_base.specs.Founding.{Founding};
@@ -219,6 +220,24 @@ impl Genesis {
         let mut genesis = Genesis::new(alloc);
         read_lines(&mut genesis, text, Genesis::BYTES)?;
         Ok(genesis)
+    }
+
+    /// The same assets and holdings once more.
+    pub fn copy(&self, alloc: Global) -> Result<Genesis, Memory>
+        ensures { IfOk result (λ copy. copy ≡ self.now) }
+    {
+        Ok(Genesis {
+            assets: Vec::from_slice(alloc, self.assets.as_slice())?,
+            holds: Vec::from_slice(alloc, self.holds.as_slice())?,
+        })
+    }
+
+    /// The cap of an asset; none exactly where there is no such asset.
+    pub fn cap(&self, asset: Name) -> Option<Amount>
+        ensures cap { option_map amount_number result ≡ cap_among self.now.assets asset }
+        ensures valid { IsGenesis self.now }
+    {
+        cap_in(&self.assets, asset)
     }
 
     /// An asset and its cap, by its place from 0.

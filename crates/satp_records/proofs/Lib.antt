@@ -1,0 +1,5 @@
+pub mod Fields
+pub mod Lists
+pub mod Records
+pub mod Decoding
+pub mod Joins

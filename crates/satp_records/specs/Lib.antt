@@ -1,0 +1,4 @@
+pub mod Shapes
+pub mod Formats
+pub mod Reading
+pub mod Views

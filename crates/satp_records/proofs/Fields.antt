@@ -44,7 +44,7 @@ count_said one low (b ∷ rest) fits there = refl
 count_said two low rest fits there =
     sym (be_bytes_2 (take 2 rest) (from_be_bytes w16 (take 2 rest)) (omega (arith, length-take 2 rest)) (IsBytes-take 2 rest fits) refl)
 
-length-count : (c : Count) (n : ℕ) → length (count_bytes c n) ≡ width c
+pub length-count : (c : Count) (n : ℕ) → length (count_bytes c n) ≡ width c
 length-count fixed n = refl
 length-count one n = refl
 length-count two n = refl

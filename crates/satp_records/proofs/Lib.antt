@@ -3,3 +3,5 @@ pub mod Lists
 pub mod Records
 pub mod Decoding
 pub mod Joins
+pub mod Lengths
+pub mod Payloads

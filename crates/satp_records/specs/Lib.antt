@@ -2,3 +2,4 @@ pub mod Shapes
 pub mod Formats
 pub mod Reading
 pub mod Views
+pub mod Laws

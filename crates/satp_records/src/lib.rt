@@ -4,6 +4,7 @@
 mod code;
 mod fault;
 mod field;
+mod laws;
 mod reading;
 mod stored;
 #[cfg(test)]
@@ -11,6 +12,7 @@ mod tests;
 mod writing;
 
 pub use fault::RecordFault;
+pub use laws::law_payloads;
 pub use reading::{decode, rec_of};
 pub use stored::{Setup, Stored};
 pub use writing::encode;

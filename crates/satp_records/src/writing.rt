@@ -158,7 +158,7 @@ fn encode_act(
     Ok(out)
 }
 
-/// The payload of a record that can be stored, of at most 4,096 bytes.
+/// The payload of a record that can be stored: 1 to 4,096 bytes. It fails for want of memory alone.
 pub fn encode(alloc: Global, stored: &Stored) -> Result<Text, Memory>
     requires { IsFormed stored.now }
     ensures { IfOk result (λ out. out ≡ payload_of stored.now) }

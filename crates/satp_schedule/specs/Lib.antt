@@ -1,0 +1,4 @@
+pub mod Lines
+pub mod Generator
+pub mod Made
+pub mod Verbs

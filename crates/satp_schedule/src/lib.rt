@@ -1,0 +1,11 @@
+//! Schedules of a drill: what two gateways do, and what goes wrong meanwhile, read from a text or made from a number.
+#![tactic(auto)]
+
+mod fields;
+mod generator;
+mod line;
+mod schedule;
+
+pub use generator::generate;
+pub use line::{Line, Side};
+pub use schedule::{Schedule, ScheduleFault};

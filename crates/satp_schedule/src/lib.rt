@@ -4,7 +4,10 @@
 mod fields;
 mod generator;
 mod line;
+mod parse;
 mod schedule;
+mod values;
+mod verb;
 
 pub use generator::generate;
 pub use line::{Line, Side};

@@ -1,6 +1,6 @@
 use Rattle.std.proofs.Common.{◌≡◌, Some, refl, ap, sym, ◌∙◌}
 use Rattle.satp_schedule.proofs.Picks.{zero_text, is_zero, not_zero}
-use Rattle.satp_schedule.proofs.fields.pick_of.Goals as goal
+use Rattle.satp_schedule.proofs.values.pick_of.Goals as goal
 
 pub returns-then-eq-clause-sound : goal.returns-then-eq-clause-sound
 returns-then-eq-clause-sound c = (refl, zero_text _ _ c.as_slice.ensures c.if-eq.ensures)

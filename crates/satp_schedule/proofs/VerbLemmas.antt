@@ -1,15 +1,14 @@
 -- The sorts of lines: what a line's first field and the number of its fields tell.
-use Rattle.std.proofs.Common.{◌≡◌, ◌≢◌, ℕ, ◌+◌, Bool, true, false, cond, List, [], ◌∷◌, ◌++◌, decimal, length, nat_eq, refl, ap, sym, subst, ◌∙◌, arith, append-nil, length-append}
+use Rattle.std.proofs.Common.{◌≡◌, ◌≢◌, ℕ, true, cond, List, [], ◌∷◌, ◌++◌, length, nat_eq, refl, ap, sym, ◌∙◌, arith, append-nil, length-append}
 use Rattle.std.specs.Prelude.{codes}
 use Rattle.std.specs.List.{join_with_byte}
 use lib.Pointwise.{pointwise}
 use Rattle.satp_schedule.specs.Fields.{cut_fields}
-use Rattle.satp_schedule.specs.Lines.{fields_of, has_form, line_text, side_text}
+use Rattle.satp_schedule.specs.Lines.{fields_of, has_form, line_text}
 use Rattle.satp_schedule.specs.Transfers.{transfer_fields}
 use Rattle.satp_schedule.specs.Verbs.{Begins, BeginsNone, fields_behind, verb_of, verb_text}
 use Rattle.satp_schedule.specs.declared.line.Line.{Line}
 use Rattle.satp_schedule.specs.declared.line.Line.TheVariants as line
-use Rattle.satp_schedule.specs.declared.line.Side.{Side}
 use Rattle.satp_schedule.specs.declared.parse.Transfer.{Transfer}
 use Rattle.satp_schedule.specs.declared.verb.Verb.{Verb}
 use Rattle.satp_schedule.specs.declared.verb.Verb.TheVariants.{Start, Resume, Recover, Abort, Deliver, Stop, Fail, Lose, Twice}

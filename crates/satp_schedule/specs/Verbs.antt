@@ -1,5 +1,5 @@
 -- A line is about what its first field says.
-use Rattle.std.specs.Prelude.{◌≡◌, ◌≢◌, ℕ, true, List, [], ◌∷◌, ◌++◌, codes, decimal}
+use Rattle.std.specs.Prelude.{◌≡◌, ℕ, true, List, [], ◌∷◌, ◌++◌, codes, decimal}
 use Rattle.satp_base.specs.Values.{name_text, amount_text, session_text}
 use Rattle.satp_schedule.specs.Lines.{has_form, side_text}
 use Rattle.satp_schedule.specs.declared.line.Line.{Line}

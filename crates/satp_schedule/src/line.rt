@@ -22,19 +22,42 @@ pub enum Line {
         beneficiary: Name,
     },
     /// The side goes on with a session.
-    Resume { side: Side, session: SessionId },
+    Resume {
+        side: Side,
+        session: SessionId,
+    },
     /// The side starts a recovery round.
-    Recover { side: Side, session: SessionId },
+    Recover {
+        side: Side,
+        session: SessionId,
+    },
     /// The side aborts a session.
-    Abort { side: Side, session: SessionId },
+    Abort {
+        side: Side,
+        session: SessionId,
+    },
     /// The n-th text that was ever sent is handed to the side once more.
-    Deliver { side: Side, n: u32 },
+    Deliver {
+        side: Side,
+        n: u32,
+    },
     /// In the next command the side stops after so many events, and leaves that pick of its disk.
-    Stop { side: Side, event: u32, pick: u32 },
+    Stop {
+        side: Side,
+        event: u32,
+        pick: u32,
+    },
     /// In the next command the call of that number on the side's devices fails.
-    Fail { side: Side, call: u32 },
+    Fail {
+        side: Side,
+        call: u32,
+    },
     /// The n-th message of the next command is lost.
-    Lose { n: u32 },
+    Lose {
+        n: u32,
+    },
     /// The n-th message of the next command is handed over twice.
-    Twice { n: u32 },
+    Twice {
+        n: u32,
+    },
 }

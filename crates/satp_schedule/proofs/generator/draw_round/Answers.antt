@@ -1,4 +1,4 @@
-use Rattle.std.proofs.Common.{◌≡◌, ◌∙◌, ap, arith, refl}
+use Rattle.std.proofs.Common.{◌∙◌, ap, arith, refl}
 use Rattle.satp_schedule.proofs.RoundLemmas.{joined}
 use Rattle.satp_schedule.specs.Generator.{round, start}
 use Rattle.satp_schedule.proofs.generator.draw_round.Goals as goal

@@ -1,4 +1,4 @@
-use Rattle.std.proofs.Common.{◌≡◌, ap, arith, map}
+use Rattle.std.proofs.Common.{ap, arith, map}
 use Rattle.satp_schedule.specs.Lines.{fields_of}
 use Rattle.satp_schedule.proofs.RoundLemmas.{first_round, next_round, last_round}
 use Rattle.satp_schedule.proofs.generator.generate.Goals as goal

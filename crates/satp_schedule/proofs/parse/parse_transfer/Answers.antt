@@ -1,4 +1,4 @@
-use Rattle.std.proofs.Common.{◌≡◌, sym, ◌∙◌}
+use Rattle.std.proofs.Common.{sym, ◌∙◌}
 use Rattle.satp_schedule.proofs.VerbLemmas.{tail_same}
 use Rattle.satp_schedule.proofs.parse.parse_transfer.Goals as goal
 

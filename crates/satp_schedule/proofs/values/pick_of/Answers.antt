@@ -1,4 +1,4 @@
-use Rattle.std.proofs.Common.{◌≡◌, Some, refl, ap, sym, ◌∙◌}
+use Rattle.std.proofs.Common.{Some, refl, ap, sym, ◌∙◌}
 use Rattle.satp_schedule.proofs.Picks.{zero_text, is_zero, not_zero}
 use Rattle.satp_schedule.proofs.values.pick_of.Goals as goal
 

@@ -1,5 +1,7 @@
-ghost use Rattle.std.specs.Prelude.{◌≡◌, IsTrue};
+ghost use Rattle.std.specs.Prelude.{◌≡◌, ◌∷◌, ◌++◌, [], IsTrue};
 ghost use Rattle.satp_base.specs.Forms.{IsBody, IsPart, is_plain};
+ghost use Rattle.satp_base.specs.Tales.{IsTale};
+ghost use Rattle.satp_chain.specs.Chained.{tale_of};
 ghost use Rattle.satp_chain.specs.Verdicts.{IsChainBody, IsOfChain};
 
 use super::*;
@@ -285,4 +287,30 @@ fn rolls_back_without_a_reject(rt: HostRuntime) -> Result<(), Fail> {
     )?;
     assert_eq!(rt; chain.head().length, 8);
     Ok(())
+}
+
+#[test]
+fn composes_on_a_message_that_is_to_be_pushed(rt: HostRuntime) -> Result<(), Fail> {
+    let alloc = rt.alloc();
+    let key = Key::new(&[7; 32])?;
+    let mut chain = begun(&rt, alloc, &key)?;
+    assert!(rt; chain.tale().extends(Kind::ProposalReceipt));
+    let taken = chain.compose(alloc, &key, Part::Plain(Kind::ProposalReceipt))?;
+    assert!(rt; tale_with(&chain, Kind::ProposalReceipt).extends(Kind::TransferCommence));
+    let commence = Part::Plain(Kind::TransferCommence);
+    let composed = chain.compose_on(alloc, &key, &taken, commence)?;
+    chain.push(taken);
+    let next = chain.compose(alloc, &key, commence)?;
+    assert_eq!(rt; composed.text.bytes(), next.text.bytes());
+    Ok(())
+}
+
+/// The tale of a chain with one further kind.
+fn tale_with(chain: &Chain, kind: Kind) -> Tale
+    requires { IsTale (tale_of chain.now ++ kind ∷ []) }
+    ensures { result ≡ tale_of chain.now ++ kind ∷ [] }
+{
+    let mut tale = *chain.tale();
+    tale.push(kind);
+    tale
 }

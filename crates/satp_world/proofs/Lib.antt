@@ -18,4 +18,5 @@ pub mod RuleMoves
 pub mod Chained
 pub mod Growth
 pub mod PairLaw
+pub mod EntryLaw
 pub mod WorldLaw

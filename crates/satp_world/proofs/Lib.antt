@@ -19,4 +19,6 @@ pub mod Chained
 pub mod Growth
 pub mod PairLaw
 pub mod EntryLaw
+pub mod Runs
+pub mod Endings
 pub mod WorldLaw

@@ -35,7 +35,7 @@ use Rattle.satp_world.proofs.Records.{session-self}
 
 -- ---- the ledger's rule, at the entry of the session
 
-entry-moved : (b : Book) (op : LedgerOp) (s : SessionId) (terms : Terms) → entry_of (moved b op s terms).entries s ≡ result_of op
+pub entry-moved : (b : Book) (op : LedgerOp) (s : SessionId) (terms : Terms) → entry_of (moved b op s terms).entries s ≡ result_of op
 entry-moved b op s terms = ap (λ o. option_map_or (λ (k : LedgerEntry). k.entry) o Absent) (get-insert sessions_total b.entries s (record { entry = result_of op; terms = terms_of b.entries s terms }) s ∙ ap (λ t. cond t (Some (record { entry = result_of op; terms = terms_of b.entries s terms })) (get b.entries s)) (session-self s))
 
 does_own : (op : LedgerOp) → can_do op (result_of op) ≡ true

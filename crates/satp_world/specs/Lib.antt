@@ -1,3 +1,4 @@
 pub mod Deal
 pub mod Sessions
 pub mod Worlds
+pub mod Examples

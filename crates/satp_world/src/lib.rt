@@ -5,6 +5,7 @@
 
 ghost use Rattle.satp_world.specs.Sessions.{LawSessions, LawStep};
 ghost use Rattle.satp_world.specs.Worlds.{LawSafety};
+ghost use Rattle.satp_world.specs.Examples.{LawEndings};
 
 /// From every state of a session in which the joint invariant holds, each move of either side keeps it, and is a step
 /// of the deal machine or leaves the deal as it is. Ledgers may answer as their amounts allow.
@@ -23,4 +24,11 @@ pub fn law_sessions()
 /// Texts may be lost, repeated and reordered, and gateways may stop: only a text that was said is ever taken.
 pub fn law_safety()
     ensures { LawSafety }
+{}
+
+/// Each ending of a session is reached by moves from the beginning, wherever the amounts of both ledgers allow it: a
+/// committed transfer, one that the origin aborts, one whose lock is refused, one whose mint is refused, one that the
+/// recipient aborts, and one that a round of recovery ends after a lost message and a stop.
+pub fn law_endings()
+    ensures { LawEndings }
 {}

@@ -1,11 +1,11 @@
 -- Whole sessions, move by move.
-use Rattle.std.proofs.Common.{◌≡◌, ℕ, ◌<◌, ◌≤◌, Bool, true, List, [], ◌∷◌, ◌++◌, Option, Some, None, refl, sym, ap, subst, ◌∙◌, arith, inl, inr}
+use Rattle.std.proofs.Common.{◌≡◌, ◌<◌, true, List, [], ◌++◌, None, refl, ap, ◌∙◌, arith, inr}
 use Rattle.std.specs.Prelude.{take}
 use Rattle.std.specs.FinMap.{get-empty}
 use Rattle.std.specs.Option.{option_map_or}
 use Rattle.satp_base.specs.Founding.{Founding}
 use Rattle.satp_base.specs.Keys.{session_cmp}
-use Rattle.satp_base.specs.LedgerRule.{Allows, LedgerRule, entry_of, leads, moved, result_of}
+use Rattle.satp_base.specs.LedgerRule.{Allows, LedgerRule, entry_of, leads, moved}
 use Rattle.satp_base.specs.Money.{Book, cap_of, free_of}
 use Rattle.satp_base.specs.Roles.RoleRule.{Due, Answered, Free}
 use Rattle.satp_base.specs.Tales.{eleven, is_whole}
@@ -18,8 +18,7 @@ use Rattle.satp_base.specs.declared.ledger.LedgerEntry.{LedgerEntry}
 use Rattle.satp_base.specs.declared.ledger.LedgerOp.{LedgerOp}
 use Rattle.satp_base.specs.declared.ledger.LedgerOp.TheVariants.{Lock, Burn, Mint, Assign, Release}
 use Rattle.satp_base.specs.declared.message.Kind.{Kind}
-use Rattle.satp_base.specs.declared.message.Kind.TheVariants.{TransferProposal, ProposalReceipt, TransferCommence, CommenceAck, LockAssert, LockReceipt, CommitPrepare, CommitReady, CommitFinal, CommitFinalAck, TransferComplete, Rollback, RollbackAck}
-use Rattle.satp_base.specs.declared.message.Kind.TheVariants as kind
+use Rattle.satp_base.specs.declared.message.Kind.TheVariants.{ProposalReceipt, TransferCommence, CommenceAck, LockAssert, LockReceipt, CommitPrepare, CommitReady, CommitFinal, CommitFinalAck, TransferComplete, Rollback, RollbackAck}
 use Rattle.satp_base.specs.declared.message.Part.TheVariants.{Plain, Reject}
 use Rattle.satp_base.specs.declared.message.Reason.TheVariants as reason
 use Rattle.satp_base.specs.declared.message.Role.TheVariants.{Origin, Recipient}
@@ -27,16 +26,16 @@ use Rattle.satp_base.specs.declared.message.Terms.{Terms}
 use Rattle.satp_base.specs.declared.record.Cause.TheVariants as cause
 use Rattle.satp_base.specs.declared.record.Way.TheVariants.{Commit, Back}
 use Rattle.satp_base.specs.declared.record.Rec.{Rec}
-use Rattle.satp_base.specs.declared.record.Rec.TheVariants.{Took, Made, Did, Chose, Rescue}
+use Rattle.satp_base.specs.declared.record.Rec.TheVariants.{Did, Chose}
 use Rattle.satp_base.specs.declared.session.SessionId.{SessionId}
 use Rattle.satp_base.specs.declared.view.View.{View}
 use Rattle.satp_world.specs.Sessions.{tale_of}
-use Rattle.satp_world.specs.Worlds.{Setting, Text, Among}
+use Rattle.satp_world.specs.Worlds.{Setting, Text}
 use Rattle.satp_world.specs.Worlds.Among.{first, later}
 use Rattle.satp_world.specs.Worlds.Gateway.{A}
-use Rattle.satp_world.specs.Examples.{CanEnd, CanRecover, Endings, Ends, HasRound, LawEndings, first_book, rejected, rolled_back}
+use Rattle.satp_world.specs.Examples.{CanEnd, CanRecover, Ends, LawEndings, first_book, rejected, rolled_back}
 use Rattle.satp_world.proofs.RuleMoves.{entry-moved}
-use Rattle.satp_world.proofs.Runs.{Round, Run, act_a, act_b, begins, both_sides, note_a, note_b, says_again_a, sends_a, sends_b, succeeds_a}
+use Rattle.satp_world.proofs.Runs.{Run, act_a, act_b, begins, both_sides, note_a, note_b, says_again_a, sends_a, sends_b, succeeds_a}
 use Rattle.satp_world.proofs.WorldLaw.{law_safety}
 
 no-entry : (f : Founding) (s : SessionId) → entry_of (first_book f).entries s ≡ Absent

@@ -1,5 +1,5 @@
 -- The entries of a gateway's ledger: of which sessions they are, and under which terms.
-use Rattle.std.proofs.Common.{◌≡◌, Bool, true, false, cond, List, [], Option, Some, None, refl, sym, ap, subst, ◌∙◌, inl, inr}
+use Rattle.std.proofs.Common.{◌≡◌, Bool, true, false, cond, List, Option, Some, None, refl, sym, ap, subst, ◌∙◌, inl, inr}
 use Rattle.std.specs.FinMap.{get, get-insert}
 use Rattle.satp_base.specs.Money.{Book}
 use Rattle.satp_base.specs.LedgerRule.{LedgerRule, moved, result_of, terms_of}
@@ -11,16 +11,14 @@ use Rattle.satp_base.specs.declared.ledger.LedgerOp.{LedgerOp}
 use Rattle.satp_base.specs.declared.ledger.LedgerOp.TheVariants.{Lock, Mint}
 use Rattle.satp_base.specs.declared.message.Terms.{Terms}
 use Rattle.satp_base.specs.declared.record.Rec.{Rec}
-use Rattle.satp_base.specs.declared.record.Rec.TheVariants.{Began, Took, Made}
 use Rattle.satp_base.specs.declared.session.SessionId.{SessionId}
 use Rattle.satp_base.specs.declared.view.View.{View}
-use Rattle.satp_base.specs.Canonical.{part_kind}
 use Rattle.satp_base.specs.Views.{push}
 use Rattle.satp_base.proofs.SessionLemmas.{sessions_total}
 use Rattle.satp_money.proofs.Counting.{standing_at, under}
 use Rattle.satp_world.specs.Worlds.{EntriesStand, Gateway, Setting, Side, SideMoves, Stored, Text, is_session, view_in, with_record}
 use Rattle.satp_world.specs.Worlds.SideMoves.{Proposes, Accepts, Takes, Makes, Notes, Acts, Says, Stops}
-use Rattle.satp_world.proofs.Records.{is-session, session-self, view-apart, view-here}
+use Rattle.satp_world.proofs.Records.{is-session, view-apart, view-here}
 use Rattle.satp_world.proofs.StepLaw.{push-head}
 
 -- one record more leaves the terms of every session

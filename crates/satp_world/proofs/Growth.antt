@@ -1,6 +1,5 @@
 -- What one record more makes of a side's chain of a session.
-use Rattle.std.proofs.Common.{◌≡◌, ℕ, ◌+◌, ◌≤◌, Bool, true, false, List, [], ◌∷◌, ◌++◌, map, length, Option, Some, None, refl, sym, ap, subst, ◌∙◌, arith}
-use Rattle.std.specs.List.{AllByRecursion}
+use Rattle.std.proofs.Common.{◌≡◌, ℕ, false, List, [], ◌∷◌, ◌++◌, Some, refl, sym, ap, ◌∙◌}
 use Rattle.std.proofs.lemmas.List.{append-nil, map-append}
 use Rattle.satp_base.specs.declared.name.Name.{Name}
 use Rattle.satp_base.specs.declared.session.SessionId.{SessionId}
@@ -14,7 +13,7 @@ use Rattle.satp_base.specs.declared.record.Rec.TheVariants.{Began, Took, Made, D
 use Rattle.satp_base.specs.declared.view.View.{View}
 use Rattle.satp_base.specs.Canonical.{part_kind}
 use Rattle.satp_base.specs.Forms.{IsPart}
-use Rattle.satp_base.specs.Chains.{next_text, texts_from, texts_of}
+use Rattle.satp_base.specs.Chains.{next_text, texts_from}
 use Rattle.satp_base.specs.Views.{begin, push}
 use Rattle.satp_base.proofs.ChainLemmas.{texts_appended}
 use Rattle.satp_world.specs.Sessions.{tale_of}

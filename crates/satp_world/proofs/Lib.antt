@@ -21,4 +21,7 @@ pub mod PairLaw
 pub mod EntryLaw
 pub mod Runs
 pub mod Endings
+pub mod Amounts
+pub mod Books
+pub mod TotalLaw
 pub mod WorldLaw

@@ -1,5 +1,5 @@
 -- Moves of both gateways on one session, put together: what each does to both sides' records.
-use Rattle.std.proofs.Common.{◌≡◌, ℕ, zero, suc, ◌+◌, ◌-◌, ◌<◌, ◌≤◌, Bool, true, false, List, [], ◌∷◌, ◌++◌, length, drop, Option, Some, None, refl, sym, ap, subst, ◌∙◌, arith}
+use Rattle.std.proofs.Common.{◌≡◌, ℕ, zero, suc, ◌+◌, ◌-◌, ◌≤◌, true, List, [], ◌∷◌, ◌++◌, length, drop, Some, refl, sym, ap, subst, ◌∙◌, arith}
 use Rattle.std.specs.Prelude.{slice_get}
 use Rattle.std.proofs.lemmas.List.{length_push}
 use Rattle.satp_base.specs.Canonical.{part_kind}
@@ -25,15 +25,15 @@ use Rattle.satp_base.specs.declared.record.Rec.TheVariants.{Began, Took, Made, R
 use Rattle.satp_base.specs.declared.session.SessionId.{SessionId}
 use Rattle.satp_base.specs.declared.view.View.{View}
 use Rattle.satp_base.proofs.ChainLemmas.{link_at_formed}
-use Rattle.satp_world.specs.Worlds.{Among, Delivered, Gateway, IsNote, LedgerFits, Reached, Sayable, Setting, Side, Stored, Text, World, chain_in, last_texts, message_from, name_at, recipient_for, view_in}
+use Rattle.satp_world.specs.Worlds.{Among, IsNote, LedgerFits, Reached, Sayable, Setting, Side, Stored, Text, World, chain_in, last_texts, message_from, recipient_for, view_in}
 use Rattle.satp_world.specs.Worlds.Among.{first, later}
-use Rattle.satp_world.specs.Worlds.Delivered.{Alone, Listed}
+use Rattle.satp_world.specs.Worlds.Delivered.{Alone}
 use Rattle.satp_world.specs.Worlds.Gateway.{A, B}
 use Rattle.satp_world.specs.Worlds.Reached.{Begins, Goes}
 use Rattle.satp_world.specs.Worlds.Sayable.{Own_text, Recovers, Updates, Succeeds}
 use Rattle.satp_world.specs.Worlds.SideMoves.{Proposes, Accepts, Takes, Makes, Notes, Acts, Says, Stops}
 use Rattle.satp_world.specs.Worlds.WorldMoves.{By}
-use Rattle.satp_world.specs.Examples.{HasSaid, first_book}
+use Rattle.satp_world.specs.Examples.{first_book}
 use Rattle.satp_world.proofs.Records.{chain-here, get-new, session-self, view-first, view-here}
 use Rattle.satp_world.proofs.Growth.{note-tale, no-text, one-text}
 use Rattle.satp_world.proofs.Growth.Carries.{As_made, As_taken}

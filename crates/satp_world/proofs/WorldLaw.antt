@@ -1,5 +1,5 @@
 -- Every move of a gateway keeps what stands of all sessions and of the bag.
-use Rattle.std.proofs.Common.{◌≡◌, ◌≢◌, ℕ, zero, suc, ◌+◌, ◌-◌, ◌<◌, ◌≤◌, Bool, true, false, List, [], ◌∷◌, ◌++◌, map, length, drop, Option, Some, None, refl, sym, ap, subst, ◌∙◌, arith, ◌⊎◌, inl, inr}
+use Rattle.std.proofs.Common.{◌≡◌, ℕ, zero, suc, ◌+◌, ◌-◌, ◌≤◌, Bool, true, false, List, [], ◌∷◌, map, length, drop, Option, Some, None, refl, sym, ap, subst, ◌∙◌, arith, ◌⊎◌, inl, inr}
 use Rattle.std.specs.Prelude.{slice_get}
 use Rattle.std.specs.List.{AllByRecursion}
 use Rattle.std.specs.Option.{option_map_or}
@@ -9,7 +9,6 @@ use Rattle.satp_base.specs.Founding.{Founding}
 use Rattle.satp_base.specs.Keys.{session_cmp}
 use Rattle.satp_base.specs.declared.name.Name.{Name}
 use Rattle.satp_base.specs.declared.session.SessionId.{SessionId}
-use Rattle.satp_base.specs.declared.message.Kind.{Kind}
 use Rattle.satp_base.specs.declared.message.Role.{Role}
 use Rattle.satp_base.specs.declared.message.Role.TheVariants.{Origin, Recipient}
 use Rattle.satp_base.specs.declared.message.Link.{Link}
@@ -28,7 +27,7 @@ use Rattle.satp_base.specs.declared.view.View.{View}
 use Rattle.satp_base.specs.Canonical.{part_kind}
 use Rattle.satp_base.specs.Forms.{IsMessage, IsPart}
 use Rattle.satp_base.specs.Signatures.{own}
-use Rattle.satp_base.specs.Chains.{head_of, last_link, message_at, next_text, role_at, texts_from, texts_of, zero_link}
+use Rattle.satp_base.specs.Chains.{last_link, message_at, next_text, role_at, texts_from, texts_of, zero_link}
 use Rattle.satp_base.specs.Tales.{IsTale, is_whole, other}
 use Rattle.satp_base.specs.declared.record.Next.TheVariants.{Act}
 use Rattle.satp_base.specs.LedgerRule.{LedgerRule, entry_of}
@@ -37,8 +36,8 @@ use Rattle.satp_base.proofs.ChainLemmas.{texts_appended, zero_formed}
 use Rattle.satp_base.proofs.SignatureLemmas.{own_shows}
 use Rattle.satp_base.proofs.TaleTable.{tale-is, tale-short}
 use Rattle.satp_base.proofs.Finite.In.{here}
-use Rattle.satp_world.specs.Sessions.{SessionStands, deal_of, tale_of}
-use Rattle.satp_world.specs.Worlds.{Text, Gateway, Setting, Side, Stored, World, Among, BagStands, DealGoesOn, Delivered, EntriesStand, IsChainOf, IsSettledAt, LawSafety, LedgerFits, Reached, Sayable, SideMoves, TiedTexts, WorldMoves, chain_in, is_session, last_texts, maker_side, message_from, name_at, opposite, recipient_for, records_of, session_in, side_at, start, view_in, with_record, with_side}
+use Rattle.satp_world.specs.Sessions.{SessionStands, tale_of}
+use Rattle.satp_world.specs.Worlds.{Text, Gateway, Setting, Side, Stored, World, Among, BagStands, DealGoesOn, Delivered, EntriesStand, IsChainOf, IsSettledAt, LawSafety, LedgerFits, Reached, Sayable, SideMoves, TiedTexts, WorldMoves, chain_in, is_session, last_texts, maker_side, name_at, opposite, recipient_for, records_of, session_in, side_at, start, view_in, with_record, with_side}
 use Rattle.satp_world.specs.Worlds.Gateway.{A, B}
 use Rattle.satp_world.specs.Worlds.Among.{first, later}
 use Rattle.satp_world.specs.Worlds.Delivered.{Alone, Listed}
@@ -48,9 +47,9 @@ use Rattle.satp_world.specs.Worlds.WorldMoves.{By}
 use Rattle.satp_world.specs.Worlds.Reached.{Begins, Goes}
 use Rattle.satp_world.specs.Worlds.TiedTexts.{Same as Same_texts, Origin_ahead, Recipient_ahead}
 use Rattle.satp_world.proofs.Records.{is-session, view-apart, chain-here, chain-apart, get-old}
-use Rattle.satp_world.proofs.Chained.{HalfChain, HasMessage, TiedParts, long, maker-has, message-of}
+use Rattle.satp_world.proofs.Chained.{HalfChain, TiedParts, long, maker-has, message-of}
 use Rattle.satp_world.proofs.Chained.TiedParts.{Same, Mine_ahead, Peer_ahead}
-use Rattle.satp_world.proofs.PairLaw.{PairStands, PairMoved, session_by, session_of, role-is, flip-pair, noted, acted, acted-apart, apart, made, took-by, unmoved, proposed, accepted}
+use Rattle.satp_world.proofs.PairLaw.{PairStands, PairMoved, session_by, role-is, flip-pair, noted, acted, acted-apart, apart, made, took-by, unmoved, proposed, accepted}
 use Rattle.satp_world.proofs.EntryLaw.{entries-kept}
 use Rattle.satp_world.proofs.SafeLaw.{safe-of}
 

@@ -1,5 +1,5 @@
 -- Whole sessions as lists of moves from the beginning: each ending can be reached, over texts and ledgers.
-use Rattle.std.specs.Prelude.{◌≡◌, ℕ, ◌+◌, ◌<◌, ◌≤◌, List, [], ◌∷◌, ◌++◌, take, length, slice_get, Option, Some, None, IsTrue, IsFalse}
+use Rattle.std.specs.Prelude.{◌≡◌, ℕ, ◌<◌, List, [], ◌∷◌, ◌++◌, take, length, None}
 use Rattle.std.specs.FinMap as map_of
 use Rattle.satp_base.specs.Founding.{Founding}
 use Rattle.satp_base.specs.Money.{Book, cap_of, free_of}

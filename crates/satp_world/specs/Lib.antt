@@ -2,3 +2,4 @@ pub mod Deal
 pub mod Sessions
 pub mod Worlds
 pub mod Examples
+pub mod Totals

@@ -1,5 +1,5 @@
 -- Two gateways with records and ledgers, a bag of texts between them that only grows, and the moves of each.
-use Rattle.std.specs.Prelude.{◌≡◌, ◌≢◌, ◌⊎◌, ℕ, zero, suc, ◌+◌, ◌-◌, ◌<◌, ◌≤◌, Bool, true, false, List, [], ◌∷◌, ◌++◌, map, filter, length, drop, slice_get, Option, Some, None, IsTrue}
+use Rattle.std.specs.Prelude.{◌≡◌, ◌≢◌, ◌⊎◌, ℕ, ◌+◌, ◌-◌, ◌<◌, ◌≤◌, Bool, true, false, List, [], ◌∷◌, ◌++◌, map, filter, length, drop, slice_get, Option, Some, IsTrue}
 use Rattle.std.specs.List.{flat_map}
 use Rattle.std.specs.FinMap as map_of
 use Rattle.std.specs.Ordering.{eq_by_cmp}

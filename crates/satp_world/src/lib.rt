@@ -6,6 +6,7 @@
 ghost use Rattle.satp_world.specs.Sessions.{LawSessions, LawStep};
 ghost use Rattle.satp_world.specs.Worlds.{LawSafety};
 ghost use Rattle.satp_world.specs.Examples.{LawEndings};
+ghost use Rattle.satp_world.specs.Totals.{LawTotal};
 
 /// From every state of a session in which the joint invariant holds, each move of either side keeps it, and is a step
 /// of the deal machine or leaves the deal as it is. Ledgers may answer as their amounts allow.
@@ -31,4 +32,11 @@ pub fn law_safety()
 /// recipient aborts, and one that a round of recovery ends after a lost message and a stop.
 pub fn law_endings()
     ensures { LawEndings }
+{}
+
+/// In every world that moves of both gateways lead to, and of every asset: what is free on both ledgers, over all
+/// owners and all sessions of both directions, is at most what both ledgers were founded with, and just that wherever
+/// every begun session is settled.
+pub fn law_total()
+    ensures { LawTotal }
 {}

@@ -24,4 +24,5 @@ pub mod Endings
 pub mod Amounts
 pub mod Books
 pub mod TotalLaw
+pub mod Limits
 pub mod WorldLaw

@@ -3,3 +3,4 @@ pub mod Sessions
 pub mod Worlds
 pub mod Examples
 pub mod Totals
+pub mod Limits

@@ -6,6 +6,7 @@
 ghost use Rattle.satp_world.specs.Sessions.{LawSessions, LawStep};
 ghost use Rattle.satp_world.specs.Worlds.{LawSafety};
 ghost use Rattle.satp_world.specs.Examples.{LawEndings};
+ghost use Rattle.satp_world.specs.Limits.{LawLimits};
 ghost use Rattle.satp_world.specs.Totals.{LawTotal};
 
 /// From every state of a session in which the joint invariant holds, each move of either side keeps it, and is a step
@@ -32,6 +33,12 @@ pub fn law_safety()
 /// recipient aborts, and one that a round of recovery ends after a lost message and a stop.
 pub fn law_endings()
     ensures { LawEndings }
+{}
+
+/// What no move does: burn before the recipient is ready, take a text that its maker's chain doesn't hold, say an
+/// update of more than two messages, or begin a session past the bound of each role.
+pub fn law_limits()
+    ensures { LawLimits }
 {}
 
 /// In every world that moves of both gateways lead to, and of every asset: what is free on both ledgers, over all

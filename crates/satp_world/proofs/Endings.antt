@@ -35,7 +35,7 @@ use Rattle.satp_world.specs.Worlds.Among.{first, later}
 use Rattle.satp_world.specs.Worlds.Gateway.{A}
 use Rattle.satp_world.specs.Examples.{CanEnd, CanRecover, Ends, LawEndings, first_book, rejected, rolled_back}
 use Rattle.satp_world.proofs.RuleMoves.{entry-moved}
-use Rattle.satp_world.proofs.Runs.{Run, act_a, act_b, begins, both_sides, note_a, note_b, says_again_a, sends_a, sends_b, succeeds_a}
+use Rattle.satp_world.proofs.Runs.{Run, act_a, act_b, begins, both_sides, finds_a, note_a, note_b, says_again_a, sends_a, sends_b, succeeds_a}
 use Rattle.satp_world.proofs.WorldLaw.{law_safety}
 
 no-entry : (f : Founding) (s : SessionId) → entry_of (first_book f).entries s ≡ Absent
@@ -196,6 +196,73 @@ module _ (st : Setting) (fa fb : Founding) (s : SessionId) (named : s.gateway �
         success = last.keeps _ first;
       })
 
+  finds_again : Allows (first_book fa) Lock terms → Allows (first_book fb) Mint terms → CanRecover st fa fb s 1 eleven Burnt Assigned
+  finds_again can_lock can_mint =
+      let k0 = begins st fa fb s named terms in
+      let k1 = sends_b st fa fb s named _ _ _ _ _ k0 (Plain ProposalReceipt) refl refl (Due refl) refl (Free (refl, Onward 2 (omega arith))) refl in
+      let k2 = sends_a st fa fb s named _ _ _ _ _ k1 (Plain TransferCommence) refl refl (Due refl) refl (Free (refl, Onward 3 (omega arith))) refl in
+      let k3 = sends_b st fa fb s named _ _ _ _ _ k2 (Plain CommenceAck) refl refl (Due refl) refl (Free (refl, Onward 4 (omega arith))) refl in
+      let k4 = act_a st fa fb s named _ _ _ _ _ k3 Lock Answer.Done (moved (first_book fa) Lock s terms) refl (moves_to (first_book fa) Lock s terms Absent (no-entry fa s) refl can_lock) in
+      let k5 = note_a st fa fb s named _ _ _ _ _ k4 (Did Lock) (Answered Lock Answer.Done refl refl) tt (entry-moved (first_book fa) Lock s terms) in
+      let k6 = sends_a st fa fb s named _ _ _ _ _ k5 (Plain LockAssert) refl refl (Due refl) refl (Free (refl, Onward 5 (omega arith))) refl in
+      let k7 = sends_b st fa fb s named _ _ _ _ _ k6 (Plain LockReceipt) refl refl (Due refl) refl (Free (refl, Onward 6 (omega arith))) refl in
+      let k8 = sends_a st fa fb s named _ _ _ _ _ k7 (Plain CommitPrepare) refl refl (Due refl) refl (Free (refl, Onward 7 (omega arith))) refl in
+      let k9 = act_b st fa fb s named _ _ _ _ _ k8 Mint Answer.Done (moved (first_book fb) Mint s terms) refl (moves_to (first_book fb) Mint s terms Absent (no-entry fb s) refl can_mint) in
+      let k10 = note_b st fa fb s named _ _ _ _ _ k9 (Did Mint) (Answered Mint Answer.Done refl refl) tt (entry-moved (first_book fb) Mint s terms) in
+      let again = finds_a st fa fb s named _ _ _ _ k10 (Plain CommitReady) refl refl (Due refl) refl (Free (refl, Onward 8 (omega arith))) refl (Free (refl, refl, refl)) (omega arith) in
+      let k11 = again.run in
+      let k12 = note_a st fa fb s named _ _ _ _ _ k11 (Chose Commit) (Due refl) tt tt in
+      let k13 = act_a st fa fb s named _ _ _ _ _ k12 Burn Answer.Done (moved (moved (first_book fa) Lock s terms) Burn s terms) refl (moves_to (moved (first_book fa) Lock s terms) Burn s terms Locked (entry-moved (first_book fa) Lock s terms) refl tt) in
+      let k14 = note_a st fa fb s named _ _ _ _ _ k13 (Did Burn) (Answered Burn Answer.Done refl refl) tt (entry-moved (moved (first_book fa) Lock s terms) Burn s terms) in
+      let k15 = sends_a st fa fb s named _ _ _ _ _ k14 (Plain CommitFinal) refl refl (Due refl) refl (Free (refl, Onward 9 (omega arith))) refl in
+      let k16 = act_b st fa fb s named _ _ _ _ _ k15 Assign Answer.Done (moved (moved (first_book fb) Mint s terms) Assign s terms) refl (moves_to (moved (first_book fb) Mint s terms) Assign s terms Minted (entry-moved (first_book fb) Mint s terms) refl tt) in
+      let k17 = note_b st fa fb s named _ _ _ _ _ k16 (Did Assign) (Answered Assign Answer.Done refl refl) tt (entry-moved (moved (first_book fb) Mint s terms) Assign s terms) in
+      let k18 = sends_b st fa fb s named _ _ _ _ _ k17 (Plain CommitFinalAck) refl refl (Due refl) refl (Free (refl, Onward 10 (omega arith))) refl in
+      let k19 = sends_a st fa fb s named _ _ _ _ _ k18 (Plain TransferComplete) refl refl (Due refl) refl (Free (refl, Onward 11 (omega arith))) refl in
+      let (ended, ended_last, last) = succeeds_a st fa fb s named _ _ _ _ _ k19 (omega arith) in
+      (both_sides last.ra _ last.rb _ last.bag, ends _ _ _ _ _ last (eleven) Burnt Assigned refl refl refl (entry-moved (moved (first_book fa) Lock s terms) Burn s terms) (entry-moved (moved (first_book fb) Mint s terms) Assign s terms), record {
+        asked = again.asked;
+        asked_last = again.asked_last;
+        recover = last.keeps _ (later (later first));
+        answered = again.answered;
+        carried = again.carried;
+        update = last.keeps _ (later first);
+        carries = again.carries;
+        ended = ended;
+        ended_last = ended_last;
+        success = last.keeps _ first;
+      })
+
+  rescues : Allows (first_book fa) Lock terms → CanRecover st fa fb s 1 (take 6 eleven ++ rolled_back) Released Absent
+  rescues can_lock =
+      let k0 = begins st fa fb s named terms in
+      let k1 = sends_b st fa fb s named _ _ _ _ _ k0 (Plain ProposalReceipt) refl refl (Due refl) refl (Free (refl, Onward 2 (omega arith))) refl in
+      let k2 = sends_a st fa fb s named _ _ _ _ _ k1 (Plain TransferCommence) refl refl (Due refl) refl (Free (refl, Onward 3 (omega arith))) refl in
+      let k3 = sends_b st fa fb s named _ _ _ _ _ k2 (Plain CommenceAck) refl refl (Due refl) refl (Free (refl, Onward 4 (omega arith))) refl in
+      let k4 = act_a st fa fb s named _ _ _ _ _ k3 Lock Answer.Done (moved (first_book fa) Lock s terms) refl (moves_to (first_book fa) Lock s terms Absent (no-entry fa s) refl can_lock) in
+      let k5 = note_a st fa fb s named _ _ _ _ _ k4 (Did Lock) (Answered Lock Answer.Done refl refl) tt (entry-moved (first_book fa) Lock s terms) in
+      let k6 = sends_a st fa fb s named _ _ _ _ _ k5 (Plain LockAssert) refl refl (Due refl) refl (Free (refl, Onward 5 (omega arith))) refl in
+      let again = finds_a st fa fb s named _ _ _ _ k6 (Plain LockReceipt) refl refl (Due refl) refl (Free (refl, Onward 6 (omega arith))) refl (Free (refl, refl, refl)) (omega arith) in
+      let k7 = again.run in
+      let k8 = note_a st fa fb s named _ _ _ _ _ k7 (Chose (Back cause.Rescued)) (Due refl) tt tt in
+      let k9 = act_a st fa fb s named _ _ _ _ _ k8 Release Answer.Done (moved (moved (first_book fa) Lock s terms) Release s terms) refl (moves_to (moved (first_book fa) Lock s terms) Release s terms Locked (entry-moved (first_book fa) Lock s terms) refl tt) in
+      let k10 = note_a st fa fb s named _ _ _ _ _ k9 (Did Release) (Answered Release Answer.Done refl refl) tt (entry-moved (moved (first_book fa) Lock s terms) Release s terms) in
+      let k11 = sends_a st fa fb s named _ _ _ _ _ k10 (Plain Rollback) refl refl (Due refl) refl (Free (refl, Rolling 2 1 (omega arith) (omega arith))) refl in
+      let k12 = sends_b st fa fb s named _ _ _ _ _ k11 (Plain RollbackAck) refl refl (Due refl) refl (Free (refl, Rolling 2 2 (omega arith) (omega arith))) refl in
+      let (ended, ended_last, last) = succeeds_a st fa fb s named _ _ _ _ _ k12 (omega arith) in
+      (both_sides last.ra _ last.rb _ last.bag, ends _ _ _ _ _ last (take 6 eleven ++ rolled_back) Released Absent refl refl refl (entry-moved (moved (first_book fa) Lock s terms) Release s terms) (no-entry fb s), record {
+        asked = again.asked;
+        asked_last = again.asked_last;
+        recover = last.keeps _ (later (later first));
+        answered = again.answered;
+        carried = again.carried;
+        update = last.keeps _ (later first);
+        carries = again.carries;
+        ended = ended;
+        ended_last = ended_last;
+        success = last.keeps _ first;
+      })
+
 pub law_endings : LawEndings
 law_endings st a b s terms named = record {
   commits = commits st a b s named terms;
@@ -204,4 +271,6 @@ law_endings st a b s terms named = record {
   rejects = rejects st a b s named terms;
   recipient_aborts = recipient_aborts st a b s named terms;
   says_again = says_again st a b s named terms;
+  finds_again = finds_again st a b s named terms;
+  rescues = rescues st a b s named terms;
 }

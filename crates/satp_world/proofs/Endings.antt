@@ -1,14 +1,16 @@
 -- Whole sessions, move by move.
-use Rattle.std.proofs.Common.{◌≡◌, ◌<◌, true, List, [], ◌++◌, None, refl, ap, ◌∙◌, arith, inr}
-use Rattle.std.specs.Prelude.{take}
+use Rattle.std.proofs.Common.{◌≡◌, ◌≢◌, ℕ, ◌+◌, ◌<◌, ◌≤◌, true, List, [], ◌∷◌, ◌++◌, None, get_or, refl, ap, ◌∙◌, arith, inr}
+use Rattle.std.specs.Prelude.{take, replicate, IsTrue}
+use Rattle.std.specs.List.{sum_by}
 use Rattle.std.specs.FinMap.{get-empty}
 use Rattle.std.specs.Option.{option_map_or}
 use Rattle.satp_base.specs.Founding.{Founding}
 use Rattle.satp_base.specs.Keys.{session_cmp}
 use Rattle.satp_base.specs.LedgerRule.{Allows, LedgerRule, entry_of, leads, moved}
-use Rattle.satp_base.specs.Money.{Book, cap_of, free_of}
+use Rattle.satp_base.specs.Money.{Book, cap_of, free_of, given, given_to_all, held, held_of_all, pledged, sum_entries, taken, taken_of_all, total_of}
 use Rattle.satp_base.specs.Roles.RoleRule.{Due, Answered, Free}
 use Rattle.satp_base.specs.Tales.{eleven, is_whole}
+use Rattle.satp_base.specs.Names.{holds_name}
 use Rattle.satp_base.specs.Tales.IsTale.{Onward, Rolling, Rejecting}
 use Rattle.satp_base.specs.Views.{begin, view_from}
 use Rattle.satp_base.specs.declared.ledger.Answer.{Answer}
@@ -23,6 +25,10 @@ use Rattle.satp_base.specs.declared.message.Part.TheVariants.{Plain, Reject}
 use Rattle.satp_base.specs.declared.message.Reason.TheVariants as reason
 use Rattle.satp_base.specs.declared.message.Role.TheVariants.{Origin, Recipient}
 use Rattle.satp_base.specs.declared.message.Terms.{Terms}
+use Rattle.satp_base.specs.declared.amount.Amount.{Amount}
+use Rattle.satp_base.specs.declared.name.Name.{Name}
+use Rattle.satp_base.proofs.SessionLemmas.{exact_sessions, sessions_total}
+use Rattle.satp_money.proofs.Maps.{entries_empty}
 use Rattle.satp_base.specs.declared.record.Cause.TheVariants as cause
 use Rattle.satp_base.specs.declared.record.Way.TheVariants.{Commit, Back}
 use Rattle.satp_base.specs.declared.record.Rec.{Rec}
@@ -33,7 +39,7 @@ use Rattle.satp_world.specs.Sessions.{tale_of}
 use Rattle.satp_world.specs.Worlds.{Setting, Text}
 use Rattle.satp_world.specs.Worlds.Among.{first, later}
 use Rattle.satp_world.specs.Worlds.Gateway.{A}
-use Rattle.satp_world.specs.Examples.{CanEnd, CanRecover, Ends, LawEndings, first_book, rejected, rolled_back}
+use Rattle.satp_world.specs.Examples.{CanEnd, Case, Endings, CanRecover, Ends, LawEndings, first_book, rejected, rolled_back}
 use Rattle.satp_world.proofs.RuleMoves.{entry-moved}
 use Rattle.satp_world.proofs.Runs.{Run, act_a, act_b, begins, both_sides, finds_a, note_a, note_b, says_again_a, sends_a, sends_b, succeeds_a}
 use Rattle.satp_world.proofs.WorldLaw.{law_safety}
@@ -263,8 +269,67 @@ module _ (st : Setting) (fa fb : Founding) (s : SessionId) (named : s.gateway �
         success = last.keeps _ first;
       })
 
-pub law_endings : LawEndings
-law_endings st a b s terms named = record {
+-- ---- a case in which both ledgers allow the transfer
+
+abbrev letter : (c : ℕ) → IsTrue (holds_name 1 (c ∷ replicate 31 0)) → Name
+letter c valid = record { bytes = c ∷ replicate 31 0; count = 1; valid = valid }
+
+abbrev alpha : Name
+alpha = letter 97 refl
+
+abbrev beta : Name
+beta = letter 98 refl
+
+abbrev gold : Name
+gold = letter 103 refl
+
+abbrev ann : Name
+ann = letter 110 refl
+
+abbrev amount : (n : ℕ) → 1 ≤ n → n ≤ 9007199254740991 → Amount
+amount n low high = record { number = n; low = low; high = high }
+
+abbrev quarter : Terms
+quarter = record { amount = amount 250 (omega arith) (omega arith); asset = gold; beneficiary = beta; originator = ann }
+
+abbrev with_gold : Founding
+with_gold = record { assets = record { name = gold; cap = amount 1000 (omega arith) (omega arith) } ∷ []; holds = record { asset = gold; owner = ann; amount = amount 500 (omega arith) (omega arith) } ∷ [] }
+
+other_names : alpha ≢ beta
+other_names e = let bad : 97 ≡ 98 = ap (λ (n : Name). get_or n.bytes 0 0) e in absurd (omega (arith, bad))
+
+no-sum : (f : LedgerEntry → ℕ) → sum_entries f (first_book with_gold).entries ≡ 0
+no-sum f = ap (sum_by (λ (e : SessionId × LedgerEntry). f e.1)) (entries_empty session_cmp sessions_total exact_sessions)
+
+can_lock : 250 ≤ free_of (first_book with_gold) gold ann
+can_lock =
+    let a = no-sum (given gold ann) in
+    let b = no-sum (taken gold ann) in
+    let c : held with_gold gold ann ≡ 500 = refl in
+    omega (arith, a, b, c)
+
+can_mint : total_of (first_book with_gold) gold + 250 ≤ 1000
+can_mint =
+    let a = no-sum (given_to_all gold) in
+    let b = no-sum (taken_of_all gold) in
+    let c = no-sum (pledged gold) in
+    let d : held_of_all with_gold gold ≡ 500 = refl in
+    omega (arith, a, b, c, d)
+
+a_case : Case
+a_case = record {
+  st = record { a = alpha; b = beta; key = replicate 32 7; differ = other_names };
+  a = with_gold;
+  b = with_gold;
+  s = record { gateway = alpha; number = 1; low = omega arith; high = omega arith };
+  terms = quarter;
+  named = refl;
+  can_lock = can_lock;
+  can_mint = (1000, refl, can_mint);
+}
+
+each_ending : (st : Setting) (a b : Founding) (s : SessionId) (terms : Terms) → s.gateway ≡ st.a → Endings st a b s terms
+each_ending st a b s terms named = record {
   commits = commits st a b s named terms;
   aborts = aborts st a b s named terms;
   lacks_funds = lacks_funds st a b s named terms;
@@ -274,3 +339,6 @@ law_endings st a b s terms named = record {
   finds_again = finds_again st a b s named terms;
   rescues = rescues st a b s named terms;
 }
+
+pub law_endings : LawEndings
+law_endings = (each_ending, a_case)

@@ -188,19 +188,22 @@ module _ (st : Setting) (fa fb : Founding) (s : SessionId) (named : s.gateway â‰
       let k17 = note_b st fa fb s named _ _ _ _ _ k16 (Did Assign) (Answered Assign Answer.Done refl refl) tt (entry-moved (moved (first_book fb) Mint s terms) Assign s terms) in
       let k18 = sends_b st fa fb s named _ _ _ _ _ k17 (Plain CommitFinalAck) refl refl (Due refl) refl (Free (refl, Onward 10 (omega arith))) refl in
       let k19 = sends_a st fa fb s named _ _ _ _ _ k18 (Plain TransferComplete) refl refl (Due refl) refl (Free (refl, Onward 11 (omega arith))) refl in
-      let (ended, ended_last, last) = succeeds_a st fa fb s named _ _ _ _ _ k19 (omega arith) in
-      (both_sides last.ra _ last.rb _ last.bag, ends _ _ _ _ _ last eleven Burnt Assigned refl refl refl (entry-moved (moved (first_book fa) Lock s terms) Burn s terms) (entry-moved (moved (first_book fb) Mint s terms) Assign s terms), record {
-        asked = again.asked;
-        asked_last = again.asked_last;
-        recover = last.keeps _ (later (later first));
-        answered = again.answered;
-        carried = again.carried;
-        update = last.keeps _ (later first);
-        carries = again.carries;
-        ended = ended;
-        ended_last = ended_last;
-        success = last.keeps _ first;
-      })
+      let (ended, ended_last, last) = succeeds_a st fa fb s named _ _ _ _ _ k19 (omega arith) in (
+        both_sides last.ra _ last.rb _ last.bag,
+        ends _ _ _ _ _ last eleven Burnt Assigned refl refl refl (entry-moved (moved (first_book fa) Lock s terms) Burn s terms) (entry-moved (moved (first_book fb) Mint s terms) Assign s terms),
+        record {
+          asked = again.asked;
+          asked_last = again.asked_last;
+          recover = last.keeps _ (later (later first));
+          answered = again.answered;
+          carried = again.carried;
+          update = last.keeps _ (later first);
+          carries = again.carries;
+          ended = ended;
+          ended_last = ended_last;
+          success = last.keeps _ first;
+        },
+      )
 
   finds_again : Allows (first_book fa) Lock terms â†’ Allows (first_book fb) Mint terms â†’ CanRecover st fa fb s 1 eleven Burnt Assigned
   finds_again can_lock can_mint =
@@ -225,19 +228,22 @@ module _ (st : Setting) (fa fb : Founding) (s : SessionId) (named : s.gateway â‰
       let k17 = note_b st fa fb s named _ _ _ _ _ k16 (Did Assign) (Answered Assign Answer.Done refl refl) tt (entry-moved (moved (first_book fb) Mint s terms) Assign s terms) in
       let k18 = sends_b st fa fb s named _ _ _ _ _ k17 (Plain CommitFinalAck) refl refl (Due refl) refl (Free (refl, Onward 10 (omega arith))) refl in
       let k19 = sends_a st fa fb s named _ _ _ _ _ k18 (Plain TransferComplete) refl refl (Due refl) refl (Free (refl, Onward 11 (omega arith))) refl in
-      let (ended, ended_last, last) = succeeds_a st fa fb s named _ _ _ _ _ k19 (omega arith) in
-      (both_sides last.ra _ last.rb _ last.bag, ends _ _ _ _ _ last (eleven) Burnt Assigned refl refl refl (entry-moved (moved (first_book fa) Lock s terms) Burn s terms) (entry-moved (moved (first_book fb) Mint s terms) Assign s terms), record {
-        asked = again.asked;
-        asked_last = again.asked_last;
-        recover = last.keeps _ (later (later first));
-        answered = again.answered;
-        carried = again.carried;
-        update = last.keeps _ (later first);
-        carries = again.carries;
-        ended = ended;
-        ended_last = ended_last;
-        success = last.keeps _ first;
-      })
+      let (ended, ended_last, last) = succeeds_a st fa fb s named _ _ _ _ _ k19 (omega arith) in (
+        both_sides last.ra _ last.rb _ last.bag,
+        ends _ _ _ _ _ last (eleven) Burnt Assigned refl refl refl (entry-moved (moved (first_book fa) Lock s terms) Burn s terms) (entry-moved (moved (first_book fb) Mint s terms) Assign s terms),
+        record {
+          asked = again.asked;
+          asked_last = again.asked_last;
+          recover = last.keeps _ (later (later first));
+          answered = again.answered;
+          carried = again.carried;
+          update = last.keeps _ (later first);
+          carries = again.carries;
+          ended = ended;
+          ended_last = ended_last;
+          success = last.keeps _ first;
+        },
+      )
 
   rescues : Allows (first_book fa) Lock terms â†’ CanRecover st fa fb s 1 (take 6 eleven ++ rolled_back) Released Absent
   rescues can_lock =
@@ -255,19 +261,22 @@ module _ (st : Setting) (fa fb : Founding) (s : SessionId) (named : s.gateway â‰
       let k10 = note_a st fa fb s named _ _ _ _ _ k9 (Did Release) (Answered Release Answer.Done refl refl) tt (entry-moved (moved (first_book fa) Lock s terms) Release s terms) in
       let k11 = sends_a st fa fb s named _ _ _ _ _ k10 (Plain Rollback) refl refl (Due refl) refl (Free (refl, Rolling 2 1 (omega arith) (omega arith))) refl in
       let k12 = sends_b st fa fb s named _ _ _ _ _ k11 (Plain RollbackAck) refl refl (Due refl) refl (Free (refl, Rolling 2 2 (omega arith) (omega arith))) refl in
-      let (ended, ended_last, last) = succeeds_a st fa fb s named _ _ _ _ _ k12 (omega arith) in
-      (both_sides last.ra _ last.rb _ last.bag, ends _ _ _ _ _ last (take 6 eleven ++ rolled_back) Released Absent refl refl refl (entry-moved (moved (first_book fa) Lock s terms) Release s terms) (no-entry fb s), record {
-        asked = again.asked;
-        asked_last = again.asked_last;
-        recover = last.keeps _ (later (later first));
-        answered = again.answered;
-        carried = again.carried;
-        update = last.keeps _ (later first);
-        carries = again.carries;
-        ended = ended;
-        ended_last = ended_last;
-        success = last.keeps _ first;
-      })
+      let (ended, ended_last, last) = succeeds_a st fa fb s named _ _ _ _ _ k12 (omega arith) in (
+        both_sides last.ra _ last.rb _ last.bag,
+        ends _ _ _ _ _ last (take 6 eleven ++ rolled_back) Released Absent refl refl refl (entry-moved (moved (first_book fa) Lock s terms) Release s terms) (no-entry fb s),
+        record {
+          asked = again.asked;
+          asked_last = again.asked_last;
+          recover = last.keeps _ (later (later first));
+          answered = again.answered;
+          carried = again.carried;
+          update = last.keeps _ (later first);
+          carries = again.carries;
+          ended = ended;
+          ended_last = ended_last;
+          success = last.keeps _ first;
+        },
+      )
 
 -- ---- a case in which both ledgers allow the transfer
 

@@ -346,6 +346,8 @@ module _ (st : Setting) (fa fb : Founding) (s : SessionId) (named : s.gateway �
   -- the recovery's last message
   pub succeeds_a : (va vb : View) (ba bb : Book) (old : List Text) (k : Run va vb ba bb old) → length va.tale ≤ 11
       → (n : ℕ) × (last : Link) × Run va vb ba bb (own st.key (message_from st A s (body.Success n last)) ∷ old)
-  succeeds_a va vb ba bb old k short =
-      (length (chain_in s k.ra), (head_of (chain_in s k.ra)).last,
-      say_a va vb ba bb old k (own st.key (message_from st A s (body.Success (length (chain_in s k.ra)) (head_of (chain_in s k.ra)).last))) (Succeeds s va k.view_a (omega (arith, k.long, short), link_at_formed (chain_in s k.ra) (length (chain_in s k.ra)))))
+  succeeds_a va vb ba bb old k short = (
+    length (chain_in s k.ra),
+    (head_of (chain_in s k.ra)).last,
+    say_a va vb ba bb old k (own st.key (message_from st A s (body.Success (length (chain_in s k.ra)) (head_of (chain_in s k.ra)).last))) (Succeeds s va k.view_a (omega (arith, k.long, short), link_at_formed (chain_in s k.ra) (length (chain_in s k.ra)))),
+  )

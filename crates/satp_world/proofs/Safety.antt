@@ -1,16 +1,13 @@
 -- A test that the table passes holds of each two halves that stand.
-use Rattle.std.proofs.Common.{◌≡◌, Bool, true, List, [], ◌∷◌, ◌++◌, Option, Some, None, refl, sym, subst}
+use Rattle.std.proofs.Common.{◌≡◌, Bool, true, List, [], ◌∷◌, ◌++◌, refl, sym, subst}
 use Rattle.satp_base.specs.declared.message.Kind.{Kind}
 use Rattle.satp_base.specs.declared.message.Kind.TheVariants.{TransferProposal}
-use Rattle.satp_base.specs.declared.message.Role.{Role}
-use Rattle.satp_base.specs.declared.message.Role.TheVariants.{Origin, Recipient}
 use Rattle.satp_base.specs.Tales.{IsTale, has, maker}
 use Rattle.satp_world.specs.Sessions.{Half, Tied, Stands}
 use Rattle.satp_world.specs.Sessions.Tied.{Same, Origin_ahead, Recipient_ahead}
-use Rattle.satp_base.proofs.Finite.{andthen, all_of, andthen-left, andthen-right, all_of-at}
-use Rattle.satp_base.proofs.TaleTable.{begun_tales}
+use Rattle.satp_base.proofs.Finite.{all_of, andthen-left, andthen-right, all_of-at}
 use Rattle.satp_world.proofs.TaleSteps.{begun-in, extensions, extension-in}
-use Rattle.satp_world.proofs.HalfTable.{Head, origins, recipients}
+use Rattle.satp_world.proofs.HalfTable.{origins, recipients}
 use Rattle.satp_world.proofs.HalfTest.{pairs_ok}
 use Rattle.satp_world.proofs.SafeTest.{HoldsInTables, at_ahead, at_tale}
 use Rattle.satp_world.proofs.HalfComplete.{head_of}

@@ -11,6 +11,7 @@ use Rattle.satp_base.specs.Trail.{Standing, IsOutside, changed, next, overlaid, 
 use Rattle.satp_base.proofs.Standings.{length-overlaid}
 use Rattle.satp_memory.specs.declared.areas.Areas.{Areas}
 use Rattle.satp_memory.specs.Areas.{bytes_in}
+use Rattle.satp_memory.specs.Steps.{IsOfLedger}
 use Rattle.satp_memory.specs.Disk.{Holds, Marks, Tracks, is_outside, is_plain, trail_from}
 
 pub plain-push : (es : List Event) (e : Event) → is_plain es ≡ true → is_plain (e ∷ []) ≡ true → is_plain (es ++ e ∷ []) ≡ true
@@ -21,6 +22,11 @@ plain-push (Synced a ∷ es) e p q = plain-push es e p q
 plain-push (Left a bytes ∷ es) e p q = cc
 plain-push (Founded ∷ es) e p q = plain-push es e p q
 plain-push (Acted op session terms ∷ es) e p q = plain-push es e p q
+
+pub ledger-plain : (e : Event) → IsOfLedger e → is_plain (e ∷ []) ≡ true
+ledger-plain Founded l = refl
+ledger-plain (Acted op session terms) l = refl
+ledger-plain e l = absurd l
 
 -- ---- a byte of an overlay
 
@@ -203,6 +209,12 @@ module _ (start : Areas) (es : List Event) (now base marks : Areas) (tracks : Tr
       holds-same _ _ _ _ _ _ _ _ (sym (pushed (Synced area) a)) (same_or (same_area area a) (bytes_in now a)) (sym (put_base a)) (sym (put_marks a))
       (holds-choice (same_area area a) (s a) (settled (s a).now) (bytes_in now a) (bytes_in base a) (bytes_in marks a) (bytes_in now a) _ _
       (λ e. subst (λ (l : List ℕ). Holds (settled (s a).now) l (bytes_in now area) zeros) (ap (bytes_in now) (same_area_is area a e)) (holds-synced (s a) (bytes_in now area) (bytes_in base area) (bytes_in marks area) zeros (at_area area a e) long all)) (tracks a))
+
+  -- an event of the ledger leaves the areas
+  pub tracks-noted : (e : Event) → IsOfLedger e → Tracks start (es ++ e ∷ []) now base marks
+  tracks-noted Founded l a = subst (λ (x : Standing). Holds x (bytes_in now a) (bytes_in base a) (bytes_in marks a)) (sym (pushed Founded a)) (tracks a)
+  tracks-noted (Acted op session terms) l a = subst (λ (x : Standing). Holds x (bytes_in now a) (bytes_in base a) (bytes_in marks a)) (sym (pushed (Acted op session terms) a)) (tracks a)
+  tracks-noted e l a = absurd l
 
 -- what was synced alone has no marks
 pub tracks-fresh : (start base marks : Areas) → ((a : Area) → bytes_in base a ≡ bytes_in start a) → ((a : Area) → length (bytes_in marks a) ≡ length (bytes_in start a)) → ((a : Area) (k : ℕ) → k < length (bytes_in marks a) → get_or (bytes_in marks a) k 0 ≡ 0) → Tracks start [] start base marks

@@ -6,3 +6,7 @@ pub mod Plain
 pub mod Steps
 pub mod Stopping
 pub mod Picks
+pub mod Sites
+pub mod EntryCodes
+pub mod OneLedger
+pub mod Halting

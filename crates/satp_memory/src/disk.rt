@@ -1,4 +1,4 @@
-ghost use Rattle.std.specs.Prelude.{◌≡◌, ◌≤◌, ℕ, true, List, [], Option, Some, None};
+ghost use Rattle.std.specs.Prelude.{◌≡◌, ◌≤◌, ◌<◌, ◌∷◌, ◌++◌, ℕ, true, List, [], Option, Some, None, vec_len, vec_capacity};
 ghost use Rattle.satp_memory.specs.Disk.{is_plain, Tracks};
 ghost use Rattle.satp_memory.specs.Stopping.{is_reached, pick_of, reached_alone};
 
@@ -7,40 +7,53 @@ use crate::calls::Calls;
 use crate::copy::copy_from;
 use crate::pick::pick_areas;
 use crate::stop::Stop;
-use satp_base::{Area, Device, Disk, DiskFault, Event, Memory, Text};
+use satp_base::{
+    Area, Device, Disk, DiskFault, Event, Genesis, LedgerCall, LedgerKind, LedgerOp, Memory,
+    SessionId, Terms, Text,
+};
 use std::alloc::Global;
 
 /// A disk in memory, which keeps all its events, so that it tells what a stop at each of them leaves.
 ///
 /// A call fails where [`MemDisk::fail`] named it or a stop was reached, and beside that only where it found no memory.
 /// A write or cut that was named takes effect and adds its event; behind a stop no call adds one.
+/// It notes the calls on a ledger and their events too, for the site that it is part of.
 #[derive(Drop)]
 pub struct MemDisk {
-    alloc: Global,
+    pub(crate) alloc: Global,
     start: Areas,
     current: Areas,
     base: Areas,
     marks: Areas,
+    past: Vec<Event>,
     events: Vec<Event>,
     dirs: Vec<Text>,
-    calls: Calls,
+    asks: Vec<LedgerCall>,
+    pub(crate) calls: Calls,
     stop: Option<Stop>,
     ghost tracks: { Tracks start events.items current base marks },
     ghost plain: { is_plain events.items ≡ true },
 }
 
 impl MemDisk {
-    ghost use Rattle.std.specs.Prelude.{◌≡◌, ◌≤◌, ◌+◌, ◌-◌, ◌^◌, [], ◌∷◌, ◌++◌, length, is_ok, if◌then◌else◌, Some, None, IfOk, OnOk, OnErr};
+    ghost use Rattle.std.specs.Prelude.{◌≡◌, ◌≤◌, ◌<◌, ◌+◌, ◌-◌, ◌^◌, [], ◌∷◌, ◌++◌, length, is_ok, if◌then◌else◌, vec_len, vec_capacity, Some, IfOk, OnOk, OnErr};
     ghost use Rattle.satp_base.specs.declared.area.Area.{Area};
-    ghost use Rattle.satp_base.specs.declared.area.Event.TheVariants.{Wrote, Cut, Synced};
+    ghost use Rattle.satp_base.specs.declared.area.Event.TheVariants.{Acted, Wrote, Cut, Synced};
     ghost use Rattle.satp_memory.specs.Areas.{bytes_in};
-    ghost use Rattle.satp_memory.specs.Calling.{cleared, fresh, naming};
+    ghost use Rattle.satp_memory.specs.Calling.{cleared, fresh, is_refused, missed, naming};
+    ghost use Rattle.satp_memory.specs.Sites.{LedgerEnds};
+    ghost use Rattle.satp_base.specs.declared.ledger.LedgerCall.TheVariants.{Found};
     ghost use Rattle.satp_memory.specs.Stopping.{stop_after};
-    ghost use Rattle.satp_memory.specs.Steps.{Does, Restarts, SameDisk, is_stopped};
+    ghost use Rattle.satp_memory.specs.Steps.{Does, IsFresh, IsOfLedger, Restarts, SameDisk, adding, entries_of, is_stopped, told_of};
+    ghost use Rattle.satp_base.specs.LedgerAt.{entries_after};
+    ghost use Rattle.satp_base.specs.LedgerRule.{moved_entries};
+    ghost use Rattle.satp_base.specs.Acts.{Asks};
+    ghost use Rattle.satp_base.specs.Calls.{made};
+    ghost use Rattle.satp_base.specs.Streams.{HasCause, Rose};
 
     /// An empty disk that was never called.
     pub fn new(alloc: Global) -> Result<MemDisk, Memory>
-        ensures { IfOk result (λ disk. (disk.events.items ≡ []) × ((a : Area) → bytes_in disk.start a ≡ []) × (disk.dirs.items ≡ []) × (disk.calls ≡ fresh) × (disk.stop ≡ None)) }
+        ensures { IfOk result (λ disk. IsFresh disk × (disk.calls ≡ fresh)) }
     {
         Ok(MemDisk {
             alloc,
@@ -48,8 +61,10 @@ impl MemDisk {
             current: Areas::new(alloc),
             base: Areas::new(alloc),
             marks: Areas::new(alloc),
+            past: Vec::new(alloc),
             events: Vec::new(alloc),
             dirs: Vec::new(alloc),
+            asks: Vec::new(alloc),
             calls: Calls::new(alloc),
             stop: None,
         })
@@ -80,9 +95,8 @@ impl MemDisk {
 
     /// After so many further events every call fails and adds none, until a restart. A later stop takes the place of an earlier one.
     pub fn stop_at(&mut self, event: u64, pick: u32)
-        ensures start { self.new.start ≡ self.old.start }
-        ensures events { self.new.events.items ≡ self.old.events.items }
-        ensures dirs { self.new.dirs.items ≡ self.old.dirs.items }
+        ensures told { told_of self.new ≡ told_of self.old }
+        ensures past { self.new.past.items ≡ self.old.past.items }
         ensures calls { self.new.calls ≡ self.old.calls }
         ensures stop { self.new.stop ≡ Some (stop_after (length self.old.events.items) event pick) }
     {
@@ -92,9 +106,8 @@ impl MemDisk {
 
     /// Drops a stop that wasn't reached, and each call that is to fail and hasn't come.
     pub fn clear(&mut self)
-        ensures start { self.new.start ≡ self.old.start }
-        ensures events { self.new.events.items ≡ self.old.events.items }
-        ensures dirs { self.new.dirs.items ≡ self.old.dirs.items }
+        ensures told { told_of self.new ≡ told_of self.old }
+        ensures past { self.new.past.items ≡ self.old.past.items }
         ensures calls { self.new.calls ≡ cleared self.old.calls }
         ensures stop { self.new.stop ≡ reached_alone self.old.stop (length self.old.events.items) }
     {
@@ -110,27 +123,146 @@ impl MemDisk {
     /// `Memory` leaves all as it was.
     pub fn restart(&mut self) -> Result<(), Memory>
         ensures ok { OnOk result (Restarts self.old self.new) }
-        ensures err { OnErr result (self.new ≡ self.old) }
+        ensures err { OnErr result (SameDisk self.old self.new) }
+        ensures calls { self.new.calls ≡ self.old.calls }
     {
         let pick = pick_of(self.stop);
         let image = pick_areas(self.alloc, &self.base, &self.current, &self.marks, pick)?;
         let start = image.copy(self.alloc)?;
         let base = image.copy(self.alloc)?;
         let marks = image.zeros(self.alloc)?;
+        self.past.append(&mut self.events)?;
         self.start = start;
         self.base = base;
         self.marks = marks;
         self.current = image;
-        self.events.clear();
         self.stop = None;
         Ok(())
     }
 
     /// So many events are there that every call fails.
-    fn is_stopped(&self) -> bool
+    pub(crate) fn is_stopped(&self) -> bool
         ensures { result ≡ is_stopped self.now }
     {
         is_reached(self.stop, self.events.len())
+    }
+
+    /// Counts a call on the ledger and notes it. It fails where it was named or the stop was reached, or where no memory was found to note it.
+    pub(crate) fn ask(&mut self, call: LedgerCall) -> Result<(), Memory>
+        ensures told { Asks call [] result (Some (told_of self.old)) (Some (told_of self.new)) }
+        ensures cause { HasCause self.old.calls.faults self.new.calls.faults result }
+        ensures ended { LedgerEnds (is_refused (is_stopped self.old) self.old.calls) true self.old.calls self.new.calls result }
+        ensures past { self.new.past.items ≡ self.old.past.items }
+        ensures events { self.new.events.items ≡ self.old.events.items }
+        ensures stop { self.new.stop ≡ self.old.stop }
+    {
+        let stopped = self.is_stopped();
+        let refused = self.calls.begin(stopped);
+        match self.stage_ask(call) {
+            Ok(()) => {
+                if refused {
+                    return Err(Memory);
+                }
+                Ok(())
+            }
+            Err(_) => {
+                if !refused {
+                    self.calls.want();
+                }
+                Err(Memory)
+            }
+        }
+    }
+
+    fn stage_ask(&mut self, call: LedgerCall) -> Result<(), Memory>
+        ensures start { self.new.start ≡ self.old.start }
+        ensures past { self.new.past.items ≡ self.old.past.items }
+        ensures events { self.new.events.items ≡ self.old.events.items }
+        ensures dirs { self.new.dirs.items ≡ self.old.dirs.items }
+        ensures asks { self.new.asks.items ≡ (if is_ok result then self.old.asks.items ++ call ∷ [] else self.old.asks.items) }
+        ensures stop { self.new.stop ≡ self.old.stop }
+        ensures calls { self.new.calls ≡ self.old.calls }
+    {
+        self.asks.push(call)?;
+        Ok(())
+    }
+
+    /// The same of a founding, whose genesis it copies.
+    pub(crate) fn ask_founding(&mut self, kind: LedgerKind, genesis: &Genesis) -> Result<(), Memory>
+        ensures told { Asks (Found kind genesis.now) [] result (Some (told_of self.old)) (Some (told_of self.new)) }
+        ensures cause { HasCause self.old.calls.faults self.new.calls.faults result }
+        ensures ended { LedgerEnds (is_refused (is_stopped self.old) self.old.calls) true self.old.calls self.new.calls result }
+        ensures past { self.new.past.items ≡ self.old.past.items }
+        ensures events { self.new.events.items ≡ self.old.events.items }
+        ensures stop { self.new.stop ≡ self.old.stop }
+    {
+        match genesis.copy(self.alloc) {
+            Ok(genesis) => self.ask(LedgerCall::Found { kind, genesis }),
+            Err(_) => {
+                self.miss();
+                Err(Memory)
+            }
+        }
+    }
+
+    /// Counts a call on the ledger that no memory was found to note.
+    fn miss(&mut self)
+        ensures told { told_of self.new ≡ made 1 [] (told_of self.old) }
+        ensures rose { Rose self.old.calls.faults self.new.calls.faults }
+        ensures later { self.old.calls.faults ≤ self.new.calls.faults }
+        ensures calls { self.new.calls ≡ missed (is_refused (is_stopped self.old) self.old.calls) self.old.calls }
+        ensures past { self.new.past.items ≡ self.old.past.items }
+        ensures events { self.new.events.items ≡ self.old.events.items }
+        ensures stop { self.new.stop ≡ self.old.stop }
+    {
+        let stopped = self.is_stopped();
+        if !self.calls.begin(stopped) {
+            self.calls.want();
+        }
+    }
+
+    /// Finds room for one event more.
+    pub(crate) fn find_room(&mut self) -> Result<(), Memory>
+        ensures room { OnOk result (vec_len self.new.events < vec_capacity self.new.events) }
+        ensures told { told_of self.new ≡ told_of self.old }
+        ensures past { self.new.past.items ≡ self.old.past.items }
+        ensures events { self.new.events.items ≡ self.old.events.items }
+        ensures stop { self.new.stop ≡ self.old.stop }
+        ensures calls { self.new.calls ≡ self.old.calls }
+    {
+        self.events.reserve(1)?;
+        Ok(())
+    }
+
+    /// Adds an event of the ledger, for which there is room.
+    pub(crate) fn note(&mut self, event: Event)
+        requires room { vec_len self.old.events < vec_capacity self.old.events }
+        requires ledger { IsOfLedger event }
+        ensures told { told_of self.new ≡ adding (event ∷ []) (told_of self.old) }
+        ensures entries { entries_of self.new ≡ entries_after (entries_of self.old) event }
+        ensures stop { self.new.stop ≡ self.old.stop }
+        ensures calls { self.new.calls ≡ self.old.calls }
+    {
+        add(&mut self.events, event);
+    }
+
+    /// Adds the event of an operation, for which there is room, where it changed an entry.
+    pub(crate) fn note_change(
+        &mut self,
+        changed: bool,
+        op: LedgerOp,
+        session: SessionId,
+        terms: Terms,
+    )
+        requires room { vec_len self.old.events < vec_capacity self.old.events }
+        ensures told { told_of self.new ≡ adding (if changed then Acted op session terms ∷ [] else []) (told_of self.old) }
+        ensures entries { entries_of self.new ≡ (if changed then moved_entries (entries_of self.old) op session terms else entries_of self.old) }
+        ensures stop { self.new.stop ≡ self.old.stop }
+        ensures calls { self.new.calls ≡ self.old.calls }
+    {
+        if changed {
+            self.note(Event::Acted { op, session, terms });
+        }
     }
 
     /// What the area holds counts as synced.
@@ -149,8 +281,10 @@ impl MemDisk {
 
     fn stage_enter(&mut self, dir: &[u8]) -> Result<(), Memory>
         ensures start { self.new.start ≡ self.old.start }
+        ensures past { self.new.past.items ≡ self.old.past.items }
         ensures events { self.new.events.items ≡ self.old.events.items }
         ensures dirs { self.new.dirs.items ≡ (if is_ok result then self.old.dirs.items ++ dir.now ∷ [] else self.old.dirs.items) }
+        ensures asks { self.new.asks.items ≡ self.old.asks.items }
         ensures stop { self.new.stop ≡ self.old.stop }
         ensures calls { self.new.calls ≡ self.old.calls }
     {
@@ -201,6 +335,14 @@ impl MemDisk {
     }
 }
 
+/// Adds an event for which there is room.
+fn add(events: &mut Vec<Event>, event: Event)
+    requires { vec_len events.old < vec_capacity events.old }
+    ensures { events.new.items ≡ events.old.items ++ event ∷ [] }
+{
+    let _ = events.push(event);
+}
+
 /// The stop comes before a further event.
 fn is_reached(stop: Option<Stop>, events: usize) -> bool
     ensures { result ≡ is_reached stop events }
@@ -235,7 +377,7 @@ impl Device for MemDisk {
 }
 
 impl Disk for MemDisk {
-    ghost use Rattle.std.specs.Prelude.{◌≡◌, ◌≤◌, ◌+◌, ◌-◌, ◌^◌, [], ◌∷◌, Some, length, option_map, IfOk, OnOk, OnErr};
+    ghost use Rattle.std.specs.Prelude.{◌≡◌, ◌≤◌, ◌<◌, ◌+◌, ◌-◌, ◌^◌, [], ◌∷◌, Some, length, option_map, IfOk, OnOk, OnErr};
     ghost use Rattle.std.specs.Option.{ForSome};
     ghost use Rattle.satp_base.specs.Streams.{HasCause};
     ghost use Rattle.satp_base.specs.Trail.{seen};
@@ -248,15 +390,12 @@ impl Disk for MemDisk {
         ensures err { OnErr result (MayMiss (entered dir.now) (Some (told_of self.old)) (Some (told_of self.new))) }
         ensures cause { HasCause self.old.calls.faults self.new.calls.faults result }
         ensures ended { EndsOrWants self.old self.new result }
-        ensures start { self.new.start ≡ self.old.start }
+        ensures past { self.new.past.items ≡ self.old.past.items }
         ensures events { self.new.events.items ≡ self.old.events.items }
         ensures stop { self.new.stop ≡ self.old.stop }
     {
         let stopped = self.is_stopped();
         let refused = self.calls.begin(stopped);
-        if stopped {
-            return Err(DiskFault);
-        }
         match self.stage_enter(dir) {
             Ok(()) => {
                 if refused {
@@ -265,7 +404,9 @@ impl Disk for MemDisk {
                 Ok(())
             }
             Err(_) => {
-                self.calls.want();
+                if !refused {
+                    self.calls.want();
+                }
                 Err(DiskFault)
             }
         }
@@ -276,7 +417,7 @@ impl Disk for MemDisk {
         ensures told { told_of self.new ≡ made 1 [] (told_of self.old) }
         ensures cause { HasCause self.old.calls.faults self.new.calls.faults result }
         ensures ended { Ends self.old self.new result }
-        ensures start { self.new.start ≡ self.old.start }
+        ensures past { self.new.past.items ≡ self.old.past.items }
         ensures events { self.new.events.items ≡ self.old.events.items }
         ensures stop { self.new.stop ≡ self.old.stop }
     {
@@ -293,7 +434,7 @@ impl Disk for MemDisk {
         ensures told { told_of self.new ≡ made 1 [] (told_of self.old) }
         ensures cause { HasCause self.old.calls.faults self.new.calls.faults result }
         ensures ended { Ends self.old self.new result }
-        ensures start { self.new.start ≡ self.old.start }
+        ensures past { self.new.past.items ≡ self.old.past.items }
         ensures events { self.new.events.items ≡ self.old.events.items }
         ensures stop { self.new.stop ≡ self.old.stop }
     {
@@ -312,7 +453,7 @@ impl Disk for MemDisk {
         ensures cause { HasCause self.old.calls.faults self.new.calls.faults result }
         ensures ended { EndsOrWants self.old self.new result }
         ensures adds { Adds (Wrote area at bytes.now) (Wrote area at bytes.now ∷ []) self.old self.new result }
-        ensures start { self.new.start ≡ self.old.start }
+        ensures past { self.new.past.items ≡ self.old.past.items }
         ensures stop { self.new.stop ≡ self.old.stop }
     {
         let stopped = self.is_stopped();
@@ -337,7 +478,7 @@ impl Disk for MemDisk {
         ensures cause { HasCause self.old.calls.faults self.new.calls.faults result }
         ensures ended { EndsOrWants self.old self.new result }
         ensures adds { Adds (Cut area size) (Cut area size ∷ []) self.old self.new result }
-        ensures start { self.new.start ≡ self.old.start }
+        ensures past { self.new.past.items ≡ self.old.past.items }
         ensures stop { self.new.stop ≡ self.old.stop }
     {
         let stopped = self.is_stopped();
@@ -361,7 +502,7 @@ impl Disk for MemDisk {
         ensures cause { HasCause self.old.calls.faults self.new.calls.faults result }
         ensures ended { EndsOrWants self.old self.new result }
         ensures adds { Adds (Synced area) [] self.old self.new result }
-        ensures start { self.new.start ≡ self.old.start }
+        ensures past { self.new.past.items ≡ self.old.past.items }
         ensures stop { self.new.stop ≡ self.old.stop }
     {
         let stopped = self.is_stopped();

@@ -1,0 +1,4 @@
+pub mod Lists
+pub mod Prefixes
+pub mod BookLemmas
+pub mod Reading

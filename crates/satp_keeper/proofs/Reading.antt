@@ -21,7 +21,7 @@ use Rattle.satp_records.specs.declared.stored.Stored.{Stored}
 use Rattle.satp_records.specs.declared.stored.Stored.TheVariants as stored
 use Rattle.satp_records.proofs.Payloads.{one_record}
 use Rattle.satp_keeper.specs.Books.{Operated, asset_record, hold_record, act_record, ledger_payloads, Runs, IsLedger, Leaves, IsJournal, IsFirstRefused, OneBook, NoneRefused, GoesOn}
-use Rattle.satp_keeper.specs.Replaying.{Standing, Follows, Reads, begun_by, IsRecordAt, NoRecordAt}
+use Rattle.satp_keeper.specs.Replaying.{Standing, Follows, Reads, begun_by, start}
 use Rattle.satp_keeper.proofs.Lists.{by_last, no_last, same_last, Last}
 use Rattle.satp_keeper.proofs.BookLemmas.{Before, before, more_acts, more_holds, more_assets, none_begun, begun_last, done_same, runs_more}
 
@@ -44,10 +44,6 @@ follows_one f (stored.Setup setup) g h a b = absurd a
 follows_one f (stored.Session session rec text) g h a b = absurd a
 
 -- ---- a journal is read in one way
-
--- nothing but the kind
-abbrev pub start : Standing
-start = let g : Founding = record { assets = []; holds = [] } in record { genesis = g; begun = false; book = founded g }
 
 tail_is : (a b : List ℕ) (x y : List (List ℕ)) → a ∷ x ≡ b ∷ y → (a ≡ b) × (x ≡ y)
 tail_is a b x y e = (cc, cc)

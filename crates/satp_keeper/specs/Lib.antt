@@ -1,2 +1,4 @@
 pub mod Books
 pub mod Replaying
+pub mod Opening
+pub mod Operating

@@ -27,6 +27,10 @@ abbrev pub standing_of : {C : Type 0} → (C → Book) → Founding → Option C
 standing_of book genesis None = record { genesis = genesis; begun = false; book = founded genesis }
 standing_of book genesis (Some core) = record { genesis = genesis; begun = true; book = book core }
 
+-- nothing but the kind of the ledger was said
+abbrev pub start : Standing
+start = let g : Founding = record { assets = []; holds = [] } in record { genesis = g; begun = false; book = founded g }
+
 -- An asset stands before all holdings and operations, a holding before all operations; the genesis takes each of them, and the rule answers each operation with Done.
 abbrev pub Follows : Standing → Stored → Standing → Type 0
 Follows f (stored.Asset name units) g =

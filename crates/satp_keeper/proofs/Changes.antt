@@ -22,7 +22,7 @@ use Rattle.satp_base.proofs.SessionLemmas.{sessions_total}
 
 -- an operation leaves the ledger, or moves an entry by a line of the table
 abbrev Moves : Book → LedgerOp → SessionId → Terms → Entry → Operation → Type 0
-Moves b op s t entry o = ((o.changes ≡ false) × (o.after ≡ b)) ⊎ ((o.changes ≡ true) × (leads op entry ≡ true) × (o.after ≡ moved b op s t))
+Moves b op s t entry o = ((o.changes ≡ false) × (o.after ≡ b)) ⊎ ((o.changes ≡ true) × (leads op entry ≡ true) × (o.after ≡ moved b op s t) × (o.answer ≡ Some Done))
 
 stays_so : (b : Book) (op : LedgerOp) (s : SessionId) (t : Terms) (entry : Entry) (a : Option Answer) → Moves b op s t entry (record { answer = a; changes = false; after = b })
 stays_so b op s t entry a = inl (refl, refl)
@@ -31,7 +31,7 @@ lock_moves : (b : Book) (s : SessionId) (t : Terms) (free : ℕ) → Moves b Loc
 lock_moves b s t free = at (nat_le t.amount.number free)
   where
     at : (c : Bool) → Moves b Lock s t Absent (cond c (record { answer = Some Done; changes = true; after = moved b Lock s t }) (record { answer = Some (NoFunds free); changes = false; after = b }))
-    at true = inr (refl, refl, refl)
+    at true = inr (refl, refl, refl, refl)
     at false = inl (refl, refl)
 
 mint_moves : (b : Book) (s : SessionId) (t : Terms) (total : ℕ) (cap : Option ℕ) → Moves b Mint s t Absent (mint_on b s t total cap)
@@ -39,25 +39,25 @@ mint_moves b s t total None = inl (refl, refl)
 mint_moves b s t total (Some cap) = at (nat_le (total + t.amount.number) cap)
   where
     at : (c : Bool) → Moves b Mint s t Absent (cond c (record { answer = Some Done; changes = true; after = moved b Mint s t }) (record { answer = Some (Capped total); changes = false; after = b }))
-    at true = inr (refl, refl, refl)
+    at true = inr (refl, refl, refl, refl)
     at false = inl (refl, refl)
 
 moves_on : (b : Book) (op : LedgerOp) (s : SessionId) (t : Terms) (entry : Entry) → Moves b op s t entry (operation_on b op s t entry)
 moves_on b Lock s t Absent = lock_moves b s t (free_of b t.asset t.originator)
 moves_on b Lock s t Locked = inl (refl, refl)
 moves_on b Lock s t entry = inl (refl, refl)
-moves_on b Burn s t Locked = inr (refl, refl, refl)
+moves_on b Burn s t Locked = inr (refl, refl, refl, refl)
 moves_on b Burn s t Burnt = inl (refl, refl)
 moves_on b Burn s t entry = inl (refl, refl)
 moves_on b Mint s t Absent = mint_moves b s t (total_of b t.asset) (cap_of b.genesis t.asset)
 moves_on b Mint s t Minted = inl (refl, refl)
 moves_on b Mint s t entry = inl (refl, refl)
-moves_on b Assign s t Minted = inr (refl, refl, refl)
+moves_on b Assign s t Minted = inr (refl, refl, refl, refl)
 moves_on b Assign s t Assigned = inl (refl, refl)
 moves_on b Assign s t entry = inl (refl, refl)
-moves_on b Release s t Absent = inr (refl, refl, refl)
-moves_on b Release s t Locked = inr (refl, refl, refl)
-moves_on b Release s t Minted = inr (refl, refl, refl)
+moves_on b Release s t Absent = inr (refl, refl, refl, refl)
+moves_on b Release s t Locked = inr (refl, refl, refl, refl)
+moves_on b Release s t Minted = inr (refl, refl, refl, refl)
 moves_on b Release s t Released = inl (refl, refl)
 moves_on b Release s t entry = inl (refl, refl)
 
@@ -112,3 +112,14 @@ changed_is b c op s t a other rule yes' no' = at other (operation b op s t).chan
 pub changed_by : (b c : Book) (op : LedgerOp) (s : SessionId) (t : Terms) (a : Answer) (after before : Entry) (same : Bool) → LedgerRule b op s t a c → after ≡ entry_of c.entries s → before ≡ entry_of b.entries s → IsTrue same ↔ (after ≡ before) → not same ≡ (operation b op s t).changes
 changed_by b c op s t a after before true rule is was same = changed_is b c op s t a false rule (λ e. absurd cc) (λ e. sym is ∙ same.0 refl ∙ was)
 changed_by b c op s t a after before false rule is was same = changed_is b c op s t a true rule (λ e both. absurd (let bad = same.1 (is ∙ both ∙ sym was) in cc)) (λ e. absurd cc)
+
+same_answer : (a b : Answer) → Some a ≡ Some b → a ≡ b
+same_answer a b e = cc
+
+-- only what is answered with Done changes an entry
+pub done_where_changed : (b c : Book) (op : LedgerOp) (s : SessionId) (t : Terms) (a : Answer) → LedgerRule b op s t a c → (operation b op s t).changes ≡ true → a ≡ Done
+done_where_changed b c op s t a rule changes = at (moves_of b op s t)
+  where
+    at : Moves b op s t (entry_of b.entries s) (operation b op s t) → a ≡ Done
+    at (inl h) = absurd (let both = sym h.0 ∙ changes in cc)
+    at (inr h) = same_answer a Done (sym (rule-gives b op s t a c rule).0 ∙ h.3)

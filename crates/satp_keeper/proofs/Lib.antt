@@ -5,3 +5,6 @@ pub mod Reading
 pub mod Steps
 pub mod Changes
 pub mod Storing
+pub mod Keeping
+pub mod FoundLemmas
+pub mod ClearLemmas

@@ -15,36 +15,24 @@ use Rattle.satp_base.specs.LedgerRule.{LedgerRule, operation}
 use Rattle.satp_base.specs.Money.{Book}
 use Rattle.satp_journal.specs.Appending.{AppendAnswers, AppendStops, RestsStill, events_of}
 use Rattle.satp_journal.specs.Opening.{Rests}
-use Rattle.satp_journal.specs.State.{Fits, Held}
+use Rattle.satp_journal.specs.State.{Held}
 use Rattle.satp_journal.specs.declared.fault.JournalFault.{JournalFault}
 use Rattle.satp_journal.specs.declared.fault.JournalFault.TheVariants as journal
 use Rattle.satp_journal.proofs.AppendLemmas.{Keeps, append_stops, makes_none}
-use Rattle.satp_journal.proofs.OpenLemmas.{rest_fits}
 use Rattle.satp_records.specs.Formats.{payload_of}
 use Rattle.satp_records.specs.declared.stored.Stored.TheVariants as stored
 use Rattle.satp_records.proofs.Payloads.{payloads_fit}
-use Rattle.satp_keeper.specs.Operating.{KeepStops, Stores}
 
 act_fits : (op : LedgerOp) (session : SessionId) (terms : Terms) → IsPayload (payload_of (stored.Act op session terms))
 act_fits op session terms = payloads_fit (stored.Act op session terms) tt
 
-stops_from : (q : List ℕ) (held : Held) (old new : Option Told) → Rests old held → AppendStops q held old new → KeepStops q held old new
-stops_from q held None new rests stops = tt
-stops_from q held (Some t) new rests stops = stops rests
-
 -- no call was made
-pub still_stops : (op : LedgerOp) (session : SessionId) (terms : Terms) (held : Held) (told : Option Told) → Keeps told → Rests told held → KeepStops (payload_of (stored.Act op session terms)) held told told
-still_stops op session terms held told keeps rests =
-    let q = payload_of (stored.Act op session terms) in
-    stops_from q held told told rests (append_stops q held (act_fits op session terms) told told keeps (makes_none q held (act_fits op session terms) told))
+pub still_stops : (op : LedgerOp) (session : SessionId) (terms : Terms) (held : Held) (told : Option Told) → Keeps told → AppendStops (payload_of (stored.Act op session terms)) held told told
+still_stops op session terms held told keeps = append_stops (payload_of (stored.Act op session terms)) held (act_fits op session terms) told told keeps (makes_none (payload_of (stored.Act op session terms)) held (act_fits op session terms) told)
 
-pub stored_stops : (q : List ℕ) (old held : Held) (payload : List ℕ) (told_old told_new : Option Told) → held ≡ old → payload ≡ q → Rests told_old old → AppendStops payload held told_old told_new → KeepStops q old told_old told_new
-stored_stops q old held payload told_old told_new e p rests stops = stops_from q old told_old told_new rests (subst (λ (x : List ℕ). AppendStops x old told_old told_new) p (subst (λ (h : Held). AppendStops payload h told_old told_new) e stops))
-
-pub rests_on : (old new : Held) (f : Told → Told) (told_old told_new : Option Told) → told_new ≡ option_map f told_old → new.area ≡ old.area → Rests told_old old → RestsStill old.area old.payloads new.payloads told_old told_new → Rests told_new new
-rests_on old new f None told_new is area rests still = subst (λ (o : Option Told). Rests o new) (sym is) tt
-rests_on old new f (Some t) told_new is area rests still =
-    subst (λ (o : Option Told). Rests o new) (sym is) (subst (λ (a : Area). RestsAt (f t).trail a new.payloads) (sym area) (subst (λ (o : Option Told). IfSome o (λ u. RestsAt u.trail old.area new.payloads)) is (still rests)))
+pub still_rests : (area : Area) (before behind : List (List ℕ)) (told : Option Told) → behind ≡ before → RestsStill area before behind told told
+still_rests area before behind None e = tt
+still_rests area before behind (Some t) e = λ rests. subst (RestsAt t.trail area) (sym e) rests
 
 -- an append that has its memory fails by the disk alone
 pub append_failed : (q : List ℕ) (old new : Held) (told_old told_new : Option Told) (fault : JournalFault) → old.broken ≡ false → (fault ≡ journal.Memory → ⊥) → AppendAnswers q old new told_old told_new (Err fault)
@@ -53,12 +41,6 @@ append_failed q old new told_old told_new journal.Disk whole enough is = (refl, 
 append_failed q old new told_old told_new journal.Memory whole enough is = absurd (enough refl)
 append_failed q old new told_old told_new journal.Broken whole enough is = absurd (let both = sym whole ∙ is.0 in cc)
 append_failed q old new told_old told_new (journal.Damaged at) whole enough is = absurd is
-
-pub fits_still : (first held : Held) (told : Option Told) → held ≡ first → Keeps told → Rests told first → Fits held told
-fits_still first held told e keeps rests = rest_fits held told keeps (subst (Rests told) (sym e) rests)
-
-pub appended_rests : (q : List ℕ) (first old new : Held) (told_old told_new : Option Told) (done : Unit {0}) → old ≡ first → Rests told_old first → AppendAnswers q old new told_old told_new (Ok done) → RestsStill old.area old.payloads new.payloads told_old told_new → Rests told_new new
-appended_rests q first old new told_old told_new done e rests is still = rests_on old new (made 4 (events_of old q)) told_old told_new is.2 (ap (λ (h : Held). h.area) is.1) (subst (Rests told_old) (sym e) rests) still
 
 module _ (op : LedgerOp) (session : SessionId) (terms : Terms) (b : Book) (old mid new : Held) (told_old told_new : Option Told) (payload : List ℕ) where
   pub keep_failed : (fault : JournalFault) (records bytes : ℕ) → mid ≡ old → payload ≡ payload_of (stored.Act op session terms) → old.broken ≡ false → (operation b op session terms).changes ≡ true → 1 ≤ records → length payload ≤ bytes
@@ -72,3 +54,11 @@ module _ (op : LedgerOp) (session : SessionId) (terms : Terms) (b : Book) (old m
         r.1 ∙ ap (λ (h : Held). let x : Held = record h { broken = true } in x) e,
         subst (λ (h : Held). FailsAmong h.area (events_of h (payload_of (stored.Act op session terms))) told_old told_new) e (subst (λ (x : List ℕ). FailsAmong mid.area (events_of mid x) told_old told_new) p r.2),
       )
+
+rests_on : (old new : Held) (f : Told → Told) (told_old told_new : Option Told) → told_new ≡ option_map f told_old → new.area ≡ old.area → Rests told_old old → RestsStill old.area old.payloads new.payloads told_old told_new → Rests told_new new
+rests_on old new f None told_new is area rests still = subst (λ (o : Option Told). Rests o new) (sym is) tt
+rests_on old new f (Some t) told_new is area rests still =
+    subst (λ (o : Option Told). Rests o new) (sym is) (subst (λ (a : Area). RestsAt (f t).trail a new.payloads) (sym area) (subst (λ (o : Option Told). IfSome o (λ u. RestsAt u.trail old.area new.payloads)) is (still rests)))
+
+pub appended_rests : (q : List ℕ) (old new : Held) (told_old told_new : Option Told) → Rests told_old old → AppendAnswers q old new told_old told_new (Ok tt) → RestsStill old.area old.payloads new.payloads told_old told_new → Rests told_new new
+appended_rests q old new told_old told_new rests is still = rests_on old new (made 4 (events_of old q)) told_old told_new is.2 (ap (λ (h : Held). h.area) is.1) rests still

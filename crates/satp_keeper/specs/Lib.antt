@@ -2,3 +2,4 @@ pub mod Books
 pub mod Replaying
 pub mod Opening
 pub mod Operating
+pub mod Founding

@@ -1,20 +1,16 @@
 -- What an operation on a kept ledger answers, and what it leaves.
-use Rattle.std.specs.Prelude.{◌≡◌, ◌≤◌, ℕ, Bool, true, false, List, [], ◌∷◌, ◌++◌, Option, IfSome, option_map, Result, Ok, Err}
+use Rattle.std.specs.Prelude.{◌≡◌, ℕ, Bool, true, false, List, [], ◌∷◌, ◌++◌, Option, option_map, Result, Ok, Err}
 use Rattle.satp_base.specs.declared.ledger.Answer.{Answer}
-use Rattle.satp_base.specs.declared.ledger.LedgerKind.{LedgerKind}
 use Rattle.satp_base.specs.declared.ledger.LedgerOp.{LedgerOp}
 use Rattle.satp_base.specs.declared.message.Terms.{Terms}
 use Rattle.satp_base.specs.declared.session.SessionId.{SessionId}
 use Rattle.satp_base.specs.Calls.{Told, made, risen, FailsAmong}
 use Rattle.satp_base.specs.LedgerRule.{IsOutOfOrder, LedgerRule, operation}
-use Rattle.satp_base.specs.Laws.{IsInAppend}
 use Rattle.satp_base.specs.Money.{Book}
-use Rattle.satp_journal.specs.Appending.{AtEach, events_of}
-use Rattle.satp_journal.specs.Opening.{Rests}
+use Rattle.satp_journal.specs.Appending.{events_of}
 use Rattle.satp_journal.specs.State.{Held}
 use Rattle.satp_records.specs.Formats.{payload_of}
 use Rattle.satp_records.specs.declared.stored.Stored.TheVariants as stored
-use Rattle.satp_keeper.specs.Books.{Leaves}
 use Rattle.satp_keeper.specs.declared.fault.KeeperFault.{KeeperFault}
 use Rattle.satp_keeper.specs.declared.fault.KeeperFault.TheVariants.{OutOfOrder, Empty, Damaged, Record, Disk, Broken, Memory}
 
@@ -41,14 +37,6 @@ KeepAnswers op session terms b c old new told_old told_new (Err Broken) = (old.b
 KeepAnswers op session terms b c old new told_old told_new (Err Empty) = ⊥
 KeepAnswers op session terms b c old new told_old told_new (Err (Damaged at)) = ⊥
 KeepAnswers op session terms b c old new told_old told_new (Err (Record index)) = ⊥
-
--- At each event that an operation added, each image of the area stands for the list before or for the one with the operation, and may be mended.
-abbrev pub KeepStops : List ℕ → Held → Option Told → Option Told → Type 0
-KeepStops q held old new = IfSome old (λ t. IfSome new (λ u. AtEach held.area t.trail u.trail (λ events image. IsInAppend held.payloads q image)))
-
--- where the disk tells, each image is the list at rest, and that is the journal of a ledger with this book
-abbrev pub Keeps : LedgerKind → Book → Held → Option Told → Type 0
-Keeps kind book held told = Rests told held × IfSome told (λ t. Leaves kind held.payloads book)
 
 -- the count of the keeper's own faults behind one: it goes up by one where the fault is its own
 abbrev pub faults_after : ℕ → KeeperFault → ℕ

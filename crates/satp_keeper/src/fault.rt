@@ -1,7 +1,9 @@
 ghost use Rattle.std.specs.Prelude.{◌≡◌};
+ghost use Rattle.satp_keeper.specs.Opening.{fault_of};
 ghost use Rattle.satp_keeper.specs.declared.fault.KeeperFault.TheVariants.{Disk, Memory};
 
 use satp_base::{DiskFault, Entry, Memory};
+use satp_journal::JournalFault;
 use thiserror::Error;
 
 /// Why a kept ledger wasn't founded or opened, or doesn't answer an operation.
@@ -43,5 +45,17 @@ impl From<DiskFault> for KeeperFault {
 
     fn from(_fault: DiskFault) -> KeeperFault {
         KeeperFault::Disk
+    }
+}
+
+/// A fault of the journal's opening.
+pub(crate) fn fault_of(fault: JournalFault) -> KeeperFault
+    ensures { result ≡ fault_of fault }
+{
+    match fault {
+        JournalFault::Disk => KeeperFault::Disk,
+        JournalFault::Damaged { at } => KeeperFault::Damaged { at },
+        JournalFault::Memory => KeeperFault::Memory,
+        JournalFault::Broken => KeeperFault::Broken,
     }
 }

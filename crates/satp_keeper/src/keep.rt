@@ -2,10 +2,11 @@
 
 ghost use Rattle.std.specs.Prelude.{◌≡◌, ◌≤◌, ◌↔◌, false, IfErr, IsTrue};
 ghost use Rattle.satp_base.specs.Streams.{Rose};
-ghost use Rattle.satp_journal.specs.Opening.{Rests};
+ghost use Rattle.satp_journal.specs.Appending.{AppendStops, RestsStill};
+ghost use Rattle.satp_journal.specs.State.{Fits};
 ghost use Rattle.satp_records.specs.Formats.{payload_of};
 ghost use Rattle.satp_records.specs.declared.stored.Stored.TheVariants as stored;
-ghost use Rattle.satp_keeper.specs.Operating.{ApplyAnswers, KeepAnswers, KeepStops};
+ghost use Rattle.satp_keeper.specs.Operating.{ApplyAnswers, KeepAnswers};
 
 use crate::fault::KeeperFault;
 use satp_base::{Answer, CoreFault, Disk, Entry, LedgerCore, LedgerOp, Memory, SessionId, Terms};
@@ -52,10 +53,11 @@ pub(crate) fn keep<C: LedgerCore, D: Disk>(
     terms: &Terms,
 ) -> Result<Answer, KeeperFault>
     requires whole { journal.old.held.broken ≡ false }
-    requires rests { Rests (D.told disk.old) journal.old.held }
+    requires fits { Fits journal.old.held (D.told disk.old) }
     ensures answers { KeepAnswers op session terms.now (C.book core.old) (C.book core.new) journal.old.held journal.new.held (D.told disk.old) (D.told disk.new) result }
-    ensures stops { KeepStops (payload_of (stored.Act op session terms.now)) journal.old.held (D.told disk.old) (D.told disk.new) }
-    ensures rests { journal.new.held.broken ≡ false → Rests (D.told disk.new) journal.new.held }
+    ensures stops { AppendStops (payload_of (stored.Act op session terms.now)) journal.old.held (D.told disk.old) (D.told disk.new) }
+    ensures rests { journal.new.held.broken ≡ false → RestsStill journal.old.held.area journal.old.held.payloads journal.new.held.payloads (D.told disk.old) (D.told disk.new) }
+    ensures fits { journal.new.held.broken ≡ false → Fits journal.new.held (D.told disk.new) }
     ensures later { D.faults disk.old ≤ D.faults disk.new }
     ensures cause { IfErr result (λ fault. fault ≡ KeeperFault.Disk → Rose (D.faults disk.old) (D.faults disk.new)) }
 {

@@ -1,25 +1,18 @@
 use Rattle.std.proofs.Common.{length, ap, sym, ◌∙◌, arith}
-use Rattle.satp_keeper.proofs.Storing.{appended_rests, fits_still, keep_failed, still_stops}
+use Rattle.satp_keeper.proofs.Storing.{keep_failed, still_stops}
 use Rattle.satp_keeper.proofs.keep.keep.Goals as goal
 
 pub returns-in-Err-clause-stops : goal.returns-in-Err-clause-stops
-returns-in-Err-clause-stops g c = still_stops c.args.op c.args.session c.args.terms.now c.args.journal.now.held (g.D.Device.told c.args.disk.now) (g.D.Device.keeps_model c.args.disk.now) c.requires.rests
+returns-in-Err-clause-stops g c = still_stops c.args.op c.args.session c.args.terms.now c.args.journal.now.held (g.D.Device.told c.args.disk.now) (g.D.Device.keeps_model c.args.disk.now)
 
 pub returns-in-Err-reserve-clause-stops : goal.returns-in-Err-reserve-clause-stops
-returns-in-Err-reserve-clause-stops g c = still_stops c.args.op c.args.session c.args.terms.now c.args.journal.now.held (g.D.Device.told c.args.disk.now) (g.D.Device.keeps_model c.args.disk.now) c.requires.rests
+returns-in-Err-reserve-clause-stops g c = still_stops c.args.op c.args.session c.args.terms.now c.args.journal.now.held (g.D.Device.told c.args.disk.now) (g.D.Device.keeps_model c.args.disk.now)
 
 pub returns-in-Err-apply-clause-stops : goal.returns-in-Err-apply-clause-stops
-returns-in-Err-apply-clause-stops g c = still_stops c.args.op c.args.session c.args.terms.now c.args.journal.now.held (g.D.Device.told c.args.disk.now) (g.D.Device.keeps_model c.args.disk.now) c.requires.rests
+returns-in-Err-apply-clause-stops g c = still_stops c.args.op c.args.session c.args.terms.now c.args.journal.now.held (g.D.Device.told c.args.disk.now) (g.D.Device.keeps_model c.args.disk.now)
 
 pub returns-then-not-changed-clause-stops : goal.returns-then-not-changed-clause-stops
-returns-then-not-changed-clause-stops g c = still_stops c.args.op c.args.session c.args.terms.now c.args.journal.now.held (g.D.Device.told c.args.disk.now) (g.D.Device.keeps_model c.args.disk.now) c.requires.rests
-
-pub append-requires-clause-fits : goal.append-requires-clause-fits
-append-requires-clause-fits g c = λ whole. fits_still c.args.journal.now.held c.reserve.new.self.held (g.D.Device.told c.args.disk.now) c.reserve.ensures.same (g.D.Device.keeps_model c.args.disk.now) c.requires.rests
-
-pub returns-in-Ok-append-clause-rests : goal.returns-in-Ok-append-clause-rests
-returns-in-Ok-append-clause-rests g c = λ whole.
-    appended_rests c.bytes-2.result.now c.args.journal.now.held c.reserve.new.self.held c.append.new.self.held (g.D.Device.told c.args.disk.now) (g.D.Device.told c.append.new.disk) tt c.reserve.ensures.same c.requires.rests c.in-Ok-append.ensures.answers c.in-Ok-append.ensures.rests
+returns-then-not-changed-clause-stops g c = still_stops c.args.op c.args.session c.args.terms.now c.args.journal.now.held (g.D.Device.told c.args.disk.now) (g.D.Device.keeps_model c.args.disk.now)
 
 pub returns-clause-answers : goal.returns-clause-answers
 returns-clause-answers g c =

@@ -16,7 +16,7 @@ use Rattle.satp_base.proofs.GenesisLemmas.{equal_name, names_total, names_refl}
 use Rattle.satp_base.proofs.SessionLemmas.{exact_names}
 use Rattle.satp_money.proofs.Sums.{counts, sum_insert}
 use Rattle.satp_accounts.specs.Owners.{Amounts, amount_at, owned_cmp, sum_at}
-use Rattle.satp_accounts.specs.declared.owned.Owned.{Owned}
+use Rattle.satp_money.specs.declared.owned.Owned.{Owned}
 
 pub owned_total : IsTotalOrder owned_cmp
 owned_total = then_total (on_total (λ o. o.asset) names_total) (on_total (λ o. o.owner) names_total)

@@ -7,7 +7,8 @@ use Rattle.satp_money.proofs.Moves.{each_is}
 use Rattle.satp_accounts.specs.Books.{book_of}
 use Rattle.satp_accounts.specs.Owners.{owned_cmp}
 use Rattle.satp_accounts.proofs.OwnerLemmas.{exact_owned, owned_total}
-use Rattle.satp_accounts.proofs.StepLemmas.{entry_put, from_err, from_ok, some_amount, take_done}
+use Rattle.satp_money.proofs.Steps.{entry_put, from_err, from_ok}
+use Rattle.satp_accounts.proofs.StepLemmas.{some_amount, take_done}
 use Rattle.satp_base.specs.declared.ledger.LedgerOp.TheVariants.{Lock}
 use Rattle.satp_accounts.proofs.accounts.Accounts.take.Goals as goal
 

@@ -11,7 +11,6 @@ use Rattle.satp_base.specs.declared.ledger.Entry.TheVariants.{Absent}
 use Rattle.satp_base.specs.declared.ledger.LedgerOp.{LedgerOp}
 use Rattle.satp_base.specs.declared.ledger.LedgerOp.TheVariants.{Lock}
 use Rattle.satp_base.specs.declared.message.Terms.{Terms}
-use Rattle.satp_base.specs.declared.name.Name.{Name}
 use Rattle.satp_base.specs.declared.session.SessionId.{SessionId}
 use Rattle.satp_money.specs.Amounts.{Agrees}
 use Rattle.satp_money.specs.Steps.{is_giving, receiver, with_result}

@@ -28,7 +28,10 @@ fn add_hold(
 }
 
 /// What each owner has at first.
-pub(crate) fn first_amounts(alloc: Global, genesis: &Genesis) -> Result<BTreeMap<Owned, u64>, Memory>
+pub(crate) fn first_amounts(
+    alloc: Global,
+    genesis: &Genesis,
+) -> Result<BTreeMap<Owned, u64>, Memory>
     ensures amounts { IfOk result (λ amounts. IsHeld genesis.now.holds (map.from_entries amounts.entries)) }
     ensures valid { OnOk result (IsGenesis genesis.now) }
 {

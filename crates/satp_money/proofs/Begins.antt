@@ -1,10 +1,10 @@
 -- The book of a ledger at its beginning.
 use Rattle.std.proofs.Common.{◌≡◌, ℕ, zero, suc, ◌+◌, ◌≤◌, List, [], ◌∷◌, ◌++◌, length, take, Option, Some, None, refl, ap, ◌∙◌, arith}
-use Rattle.std.specs.Prelude.{slice_get, unwrap_or}
+use Rattle.std.specs.Prelude.{slice_get}
 use Rattle.std.specs.List.{sum_by}
 use Rattle.std.specs.FinMap.{from_entries}
 use Rattle.std.proofs.lemmas.Grind.{common_steps}
-use Rattle.satp_base.specs.Founding.{Founding, cap_among}
+use Rattle.satp_base.specs.Founding.{Founding}
 use Rattle.satp_base.specs.Genesis.{IsGenesis}
 use Rattle.satp_base.specs.Keys.{session_cmp}
 use Rattle.satp_base.specs.Money.{held, held_of_all, sum_entries}

@@ -1,5 +1,5 @@
 -- What each line of the table does to the entries and to owners' amounts, however these are kept.
-use Rattle.std.proofs.Common.{◌≡◌, ◌≢◌, ◌⊎◌, inl, inr, ℕ, ◌+◌, ◌-◌, ◌<◌, ◌≤◌, ◌&&◌, ◌^◌, Bool, true, false, cond, List, [], ◌∷◌, Option, Some, None, Result, Ok, Err, refl, ap, subst, sym, ◌∙◌, arith}
+use Rattle.std.proofs.Common.{◌≡◌, ◌≢◌, inl, inr, ℕ, ◌+◌, ◌≤◌, ◌&&◌, Bool, true, false, cond, List, [], ◌∷◌, Some, None, Result, Ok, Err, refl, ap, subst, sym, ◌∙◌, arith}
 use Rattle.std.specs.Prelude.{OnErr, OnOk, find, option_map, unwrap_or}
 use Rattle.std.specs.BTreeMap.{is_at}
 use Rattle.std.specs.Option.{option_map_or}
@@ -7,19 +7,19 @@ use Rattle.std.specs.Result.{is_err}
 use Rattle.std.specs.FinMap.{from_entries, get, insert}
 use Rattle.satp_base.specs.Keys.{session_cmp}
 use Rattle.satp_base.proofs.SessionLemmas.{get_session, one_session, value_at}
-use Rattle.satp_base.specs.Founding.{Founding, cap_among, counted, equal_names}
+use Rattle.satp_base.specs.Founding.{cap_among, counted, equal_names}
 use Rattle.satp_base.specs.Ledgers.{Entries}
 use Rattle.satp_base.specs.LedgerRule.{Allows, entry_of, is_always_answered, leads, moved, result_of, terms_of}
-use Rattle.satp_base.specs.Money.{Book, cap_of, free_of, free_sum_of, is_pledged, pledged, sum_entries, total_of}
+use Rattle.satp_base.specs.Money.{Book, cap_of, is_pledged, pledged, sum_entries}
 use Rattle.satp_base.specs.Acts.{Applies}
 use Rattle.satp_base.specs.Numbers.{greatest_amount}
 use Rattle.satp_base.specs.declared.ledger.Answer.{Answer}
-use Rattle.satp_base.specs.declared.ledger.Answer.TheVariants.{Done, NoFunds, UnknownAsset, Capped, Taken}
+use Rattle.satp_base.specs.declared.ledger.Answer.TheVariants.{Done}
 use Rattle.satp_base.specs.declared.ledger.CoreFault.{CoreFault}
 use Rattle.satp_base.specs.declared.ledger.CoreFault.TheVariants as core
 use Rattle.satp_base.specs.declared.genesis.Asset.{Asset}
 use Rattle.satp_base.specs.declared.ledger.Entry.{Entry}
-use Rattle.satp_base.specs.declared.ledger.Entry.TheVariants.{Absent, Locked, Burnt, Minted, Assigned, Released}
+use Rattle.satp_base.specs.declared.ledger.Entry.TheVariants.{Absent, Locked, Minted}
 use Rattle.satp_base.specs.declared.ledger.LedgerEntry.{LedgerEntry}
 use Rattle.satp_base.specs.declared.ledger.LedgerOp.{LedgerOp}
 use Rattle.satp_base.specs.declared.ledger.LedgerOp.TheVariants.{Lock, Burn, Mint, Assign, Release}

@@ -4,13 +4,13 @@ use Rattle.std.specs.FinMap as map
 use Rattle.satp_base.specs.LedgerRule.{leads, result_of}
 use Rattle.satp_base.specs.Money.{Book, cap_of, total_of}
 use Rattle.satp_base.specs.declared.ledger.Answer.{Answer}
-use Rattle.satp_base.specs.declared.ledger.Answer.TheVariants.{Done, NoFunds, UnknownAsset, Capped, Taken}
+use Rattle.satp_base.specs.declared.ledger.Answer.TheVariants.{Done}
 use Rattle.satp_base.specs.declared.ledger.CoreFault.{CoreFault}
 use Rattle.satp_base.specs.declared.ledger.CoreFault.TheVariants as core
 use Rattle.satp_base.specs.declared.ledger.Entry.{Entry}
-use Rattle.satp_base.specs.declared.ledger.Entry.TheVariants.{Absent, Locked, Burnt, Minted, Assigned, Released}
+use Rattle.satp_base.specs.declared.ledger.Entry.TheVariants.{Absent, Locked, Minted}
 use Rattle.satp_base.specs.declared.ledger.LedgerOp.{LedgerOp}
-use Rattle.satp_base.specs.declared.ledger.LedgerOp.TheVariants.{Lock, Burn, Mint, Assign, Release}
+use Rattle.satp_base.specs.declared.ledger.LedgerOp.TheVariants.{Burn, Mint, Assign, Release}
 use Rattle.satp_base.specs.declared.message.Terms.{Terms}
 use Rattle.satp_base.specs.declared.session.SessionId.{SessionId}
 use Rattle.satp_money.specs.declared.owned.Owned.{Owned}

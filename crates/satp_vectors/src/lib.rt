@@ -9,3 +9,5 @@ mod hash_tests;
 mod journal_tests;
 #[cfg(test)]
 mod jws_tests;
+#[cfg(test)]
+mod ledger_tests;

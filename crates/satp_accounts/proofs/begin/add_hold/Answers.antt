@@ -1,4 +1,4 @@
-use Rattle.std.proofs.Common.{◌≡◌, ◌+◌, ◌∙◌, ℕ, ap, ap₂, arith, sym}
+use Rattle.std.proofs.Common.{◌+◌, ◌∙◌, ℕ, ap, ap₂, arith, sym}
 use Rattle.std.specs.Prelude.{unwrap_or}
 use Rattle.std.specs.FinMap.{from_entries}
 use Rattle.satp_money.proofs.Maps.{get_value, one_value}

@@ -1,4 +1,4 @@
-use Rattle.std.proofs.Common.{◌≡◌, ◌∙◌, ap, sym}
+use Rattle.std.proofs.Common.{◌∙◌, ap, sym}
 use Rattle.std.specs.Option.{option_copied}
 use Rattle.satp_money.proofs.Steps.{entry_found, entry_there}
 use Rattle.satp_money.proofs.entries.entry_in.Goals as goal

@@ -1,4 +1,4 @@
-use Rattle.std.proofs.Common.{◌≡◌, ◌∙◌, arith, sym}
+use Rattle.std.proofs.Common.{arith}
 use Rattle.satp_money.proofs.Running.{pledged_fits, pledged_is}
 use Rattle.satp_money.proofs.entries.pledged_in.Goals as goal
 

@@ -1,4 +1,4 @@
-use Rattle.std.proofs.Common.{◌≡◌, ◌∙◌, sym}
+use Rattle.std.proofs.Common.{◌∙◌, sym}
 use Rattle.satp_base.proofs.SessionLemmas.{get_session}
 use Rattle.satp_money.proofs.Steps.{stands, stands_absent, stands_none}
 use Rattle.satp_money.proofs.entries.standing_in.Goals as goal

@@ -1,12 +1,10 @@
-use Rattle.std.proofs.Common.{◌≡◌, ◌∙◌, ◌+◌, ℕ, ap, ap₂, sym, arith}
+use Rattle.std.proofs.Common.{◌∙◌, ◌+◌, ℕ, ap, ap₂, sym, arith}
 use Rattle.std.specs.FinMap.{from_entries}
 use Rattle.satp_base.specs.Ledgers.{Entries}
-use Rattle.satp_base.proofs.SessionLemmas.{get_session}
-use Rattle.satp_money.proofs.Maps.{get_value, one_value}
+use Rattle.satp_money.proofs.Maps.{one_value}
 use Rattle.satp_money.proofs.Moves.{each_is}
 use Rattle.satp_accounts.specs.Books.{book_of}
 use Rattle.satp_accounts.specs.Owners.{owned_cmp}
-use Rattle.satp_money.specs.declared.owned.Owned.{Owned}
 use Rattle.satp_accounts.proofs.OwnerLemmas.{exact_owned, owned_total}
 use Rattle.satp_money.proofs.Steps.{entry_put, entry_there, from_err, from_ok, not_giving}
 use Rattle.satp_accounts.proofs.StepLemmas.{give_done, raise_fits}

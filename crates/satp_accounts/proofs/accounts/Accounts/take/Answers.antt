@@ -1,8 +1,7 @@
-use Rattle.std.proofs.Common.{◌≡◌, ◌∙◌, ◌-◌, ◌≤◌, ℕ, ap, ap₂, refl, subst, sym}
+use Rattle.std.proofs.Common.{◌∙◌, ◌-◌, ◌≤◌, ℕ, ap, ap₂, refl, subst, sym}
 use Rattle.std.specs.FinMap.{from_entries}
 use Rattle.satp_base.specs.Ledgers.{Entries}
-use Rattle.satp_base.proofs.SessionLemmas.{get_session}
-use Rattle.satp_money.proofs.Maps.{get_value, one_value}
+use Rattle.satp_money.proofs.Maps.{one_value}
 use Rattle.satp_money.proofs.Moves.{each_is}
 use Rattle.satp_accounts.specs.Books.{book_of}
 use Rattle.satp_accounts.specs.Owners.{owned_cmp}

@@ -1,4 +1,3 @@
-use Rattle.std.proofs.Common.{arith}
 use Rattle.satp_accounts.specs.Books.{book_of}
 use Rattle.satp_accounts.proofs.SumLemmas.{pledged_within}
 use Rattle.satp_accounts.proofs.accounts.Accounts.total_of.Goals as goal

@@ -228,6 +228,10 @@ impl LedgerCore for Accounts {
 
     const KIND: LedgerKind = LedgerKind::Accounts;
 
+    ghost use Rattle.satp_base.specs.declared.ledger.LedgerKind.TheVariants as kind;
+
+    ghost KIND = { kind.Accounts };
+
     fn begin(alloc: Global, genesis: &Genesis) -> Result<Accounts, Memory> {
         let amounts = first_amounts(alloc, genesis)?;
         let genesis = genesis.copy(alloc)?;

@@ -198,9 +198,9 @@ had-by : (b : Book) (asset owner : Name) → of equal_names owner (havings b ass
 had-by b asset owner =
     let parts = sum_by-append (λ (e : Name × ℕ). counted (equal_names owner e.0) e.1) (map (λ (h : Hold). (h.owner, held_value asset h)) b.genesis.holds) (map (λ (e : Item). (e.1.terms.beneficiary, given_value asset e)) (entries b.entries)) in
     let first = of-items equal_names (λ (h : Hold). h.owner) (held_value asset) owner (λ (h : Hold). counted (equal_names asset h.asset && equal_names owner h.owner) h.amount.number)
-        (λ h. two (equal_names owner h.owner) (equal_names asset h.asset) h.amount.number) b.genesis.holds in
+    (λ h. two (equal_names owner h.owner) (equal_names asset h.asset) h.amount.number) b.genesis.holds in
     let rest = of-items equal_names (λ (e : Item). e.1.terms.beneficiary) (given_value asset) owner (λ (e : Item). given asset owner e.1)
-        (λ e. three (equal_names owner e.1.terms.beneficiary) (is_given e.1.entry) (equal_names asset e.1.terms.asset) e.1.terms.amount.number) (entries b.entries) in
+    (λ e. three (equal_names owner e.1.terms.beneficiary) (is_given e.1.entry) (equal_names asset e.1.terms.asset) e.1.terms.amount.number) (entries b.entries) in
     omega (arith, parts, first, rest)
 
 whole-taken : (b : Book) (asset : Name) → whole (takings b asset) ≡ sum_entries (taken_of_all asset) b.entries
@@ -243,7 +243,7 @@ owners-within b asset owners c d =
 pub owners-cover : (b : Book) (asset : Name) (owners : List Name) → IsCovered b → IsDistinct equal_names owners → ((owner : Name) → list_any (equal_names owner) owners ≡ false → free_of b asset owner ≡ 0) → free_sum_of b asset ≤ sum_by (free_of b asset) owners
 owners-cover b asset owners c d all =
     let h = keys-cover equal_names equal_name names_refl owners (takings b asset) (havings b asset) d
-        (λ owner n. let z = all owner n in let x = taken-by b asset owner in let y = had-by b asset owner in omega (arith, z, x, y)) in
+    (λ owner n. let z = all owner n in let x = taken-by b asset owner in let y = had-by b asset owner in omega (arith, z, x, y)) in
     let s = lefts-are b asset owners in
     let x = whole-taken b asset in
     let y = whole-had b asset in

@@ -19,6 +19,7 @@ pub mod Chained
 pub mod Growth
 pub mod PairLaw
 pub mod EntryLaw
+pub mod TextSizes
 pub mod Runs
 pub mod Endings
 pub mod Amounts

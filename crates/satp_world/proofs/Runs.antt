@@ -1,10 +1,11 @@
 -- Moves of both gateways on one session, put together: what each does to both sides' records.
 use Rattle.std.proofs.Common.{◌≡◌, ℕ, zero, suc, ◌+◌, ◌-◌, ◌≤◌, true, List, [], ◌∷◌, ◌++◌, length, drop, Some, refl, sym, ap, subst, ◌∙◌, arith}
 use Rattle.std.specs.Prelude.{slice_get}
+use Rattle.std.proofs.lemmas.Bool.{and_from}
 use Rattle.std.proofs.lemmas.List.{length_push}
 use Rattle.satp_base.specs.Canonical.{part_kind}
-use Rattle.satp_base.specs.Chains.{head_of, next_text, role_at}
-use Rattle.satp_base.specs.Forms.{IsPart, are_entries}
+use Rattle.satp_base.specs.Chains.{head_of, last_link, next_text, role_at}
+use Rattle.satp_base.specs.Forms.{IsMessage, IsPart, are_entries}
 use Rattle.satp_base.specs.Founding.{Founding}
 use Rattle.satp_base.specs.LedgerRule.{LedgerRule}
 use Rattle.satp_base.specs.Money.{Book}
@@ -27,7 +28,7 @@ use Rattle.satp_base.specs.declared.view.View.{View}
 use Rattle.satp_base.proofs.ChainLemmas.{link_at_formed}
 use Rattle.satp_world.specs.Worlds.{Among, IsNote, LedgerFits, Reached, Sayable, Setting, Side, Stored, Text, World, chain_in, last_texts, message_from, recipient_for, view_in}
 use Rattle.satp_world.specs.Worlds.Among.{first, later}
-use Rattle.satp_world.specs.Worlds.Delivered.{Alone}
+use Rattle.satp_world.specs.Worlds.Delivered.{Alone, Listed}
 use Rattle.satp_world.specs.Worlds.Gateway.{A, B}
 use Rattle.satp_world.specs.Worlds.Reached.{Begins, Goes}
 use Rattle.satp_world.specs.Worlds.Sayable.{Own_text, Recovers, Updates, Succeeds}
@@ -35,6 +36,7 @@ use Rattle.satp_world.specs.Worlds.SideMoves.{Proposes, Accepts, Takes, Makes, N
 use Rattle.satp_world.specs.Worlds.WorldMoves.{By}
 use Rattle.satp_world.specs.Examples.{first_book}
 use Rattle.satp_world.proofs.Records.{chain-here, get-new, session-self, view-first, view-here}
+use Rattle.satp_world.proofs.TextSizes.{chain-entry}
 use Rattle.satp_world.proofs.Growth.{note-tale, no-text, one-text}
 use Rattle.satp_world.proofs.Growth.Carries.{As_made, As_taken}
 
@@ -55,6 +57,20 @@ last_none ts = go ts (length ts - 0) (omega arith)
     go [] (suc n) h = refl
     go (x ∷ xs) zero h = absurd (omega (arith, h))
     go (x ∷ xs) (suc n) h = go xs n (omega (arith, h))
+
+last_one : (ts : List Text) (t : Text) → last_texts 1 (ts ++ t ∷ []) ≡ t ∷ []
+last_one ts t = at (length (ts ++ t ∷ []) - 1) ts (omega (arith, length_push ts t))
+  where
+    at : (n : ℕ) (xs : List Text) → n ≡ length xs → drop n (xs ++ t ∷ []) ≡ t ∷ []
+    at zero [] h = refl
+    at (suc n) [] h = absurd (omega (arith, h))
+    at zero (x ∷ xs) h = absurd (omega (arith, h))
+    at (suc n) (x ∷ xs) h = at n xs (omega (arith, h))
+
+kept : (x y : Text) (more : List Text) (u : Text) → Among u (x ∷ y ∷ []) → Among u (x ∷ y ∷ more)
+kept x y more _ first = first
+kept x y more _ (later first) = later first
+kept x y more u (later (later i)) = elim i [ ]
 
 module _ (st : Setting) (fa fb : Founding) (s : SessionId) (named : s.gateway ≡ st.a) where
   -- A reached world in which both sides have these views of the session and the same chain, with these ledgers, and in whose bag the texts `old` are.
@@ -277,15 +293,61 @@ module _ (st : Setting) (fa fb : Founding) (s : SessionId) (named : s.gateway �
             keeps = λ u i. later (kept (own st.key answered) (own st.key asked) (t ∷ k.bag) u i);
           };
         }
-      where
-        kept : (x y : Text) (more : List Text) (u : Text) → Among u (x ∷ y ∷ []) → Among u (x ∷ y ∷ more)
-        kept x y more _ first = first
-        kept x y more _ (later first) = later first
-        kept x y more u (later (later i)) = elim i [ ]
+
+    -- The recipient says a message that is lost, and the origin stops. Then it starts a round, and finds the message in the answer.
+    pub finds_a : (p : Part) → va.role ≡ Origin → vb.role ≡ Recipient → RoleRule vb.role vb (Made (part_kind p)) → IsPart p → RoleRule va.role (push va Rescue) (Took (part_kind p)) → role_at (length va.tale + 1) ≡ vb.role
+        → RoleRule va.role va Rescue → length va.tale + 1 ≤ 11
+        → Round (push (push va Rescue) (Took (part_kind p))) (push vb (Made (part_kind p))) ba bb 1
+    finds_a p origin recipient made f took place rescue short =
+        let t = next_text s (recipient_for st B vb.role) st.key (chain_in s k.rb) p in
+        let r1 = k.ra ++ stored s Rescue [] ∷ [] in
+        let r2 = r1 ++ stored s (Took (part_kind p)) t ∷ [] in
+        let rb = k.rb ++ stored s (Made (part_kind p)) t ∷ [] in
+        let at = length (chain_in s k.rb) in
+        let same_length = ap length (sym k.chains) ∙ k.long in
+        let w1 : Reached st fa fb (both_sides k.ra ba rb bb k.bag) = Goes _ _ k.reached (By B _ _ (Makes s vb p k.view_b made f)) in
+        let view_b = view-here s k.rb (stored s (Made (part_kind p)) t) vb (session-self s) k.view_b in
+        let chain_b = one-text s (side k.rb bb) (part_kind p) (Made (part_kind p)) t As_made in
+        let w2 : Reached st fa fb (both_sides k.ra ba rb bb (t ∷ k.bag)) = Goes _ _ w1 (By B _ _ (Says t (Own_text s (push vb (Made (part_kind p))) at t view_b (ap (λ ts. slice_get ts at) chain_b ∙ get-new (chain_in s k.rb) t) (ap (λ n. role_at (n + 1)) same_length ∙ place)))) in
+        let w3 : Reached st fa fb (both_sides k.ra ba rb bb (t ∷ k.bag)) = Goes _ _ w2 (By A _ _ Stops) in
+        let w4 : Reached st fa fb (both_sides r1 ba rb bb (t ∷ k.bag)) = Goes _ _ w3 (By A _ _ (Notes s va Rescue k.view_a rescue tt tt)) in
+        let view1 = view-here s k.ra (stored s Rescue []) va (session-self s) k.view_a in
+        let chain1 = no-text s (side k.ra ba) Rescue [] tt in
+        let asked = message_from st A s (body.Recover (length (chain_in s r1)) (head_of (chain_in s r1)).last) in
+        let w5 : Reached st fa fb (both_sides r1 ba rb bb (own st.key asked ∷ t ∷ k.bag)) = Goes _ _ w4 (By A _ _ (Says (own st.key asked) (Recovers s (push va Rescue) view1 (omega (arith, ap length chain1, k.long, short), link_at_formed (chain_in s r1) (length (chain_in s r1)))))) in
+        let one = ap (last_texts 1) chain_b ∙ last_one (chain_in s k.rb) t in
+        let fits = chain-entry st.key s (recipient_for st B vb.role) (at + 1) (last_link (chain_in s k.rb)) p ((record { low = omega arith; high = omega (arith, same_length, short) }, f), link_at_formed (chain_in s k.rb) at) in
+        let few = subst (λ es. are_entries es ≡ true) (sym one) (and_from _ _ refl (and_from _ _ fits refl)) in
+        let answered = message_from st B s (body.Update (length (chain_in s rb)) (last_texts 1 (chain_in s rb))) in
+        let formed : IsMessage answered = ((omega (arith, ap length chain_b, length_push (chain_in s k.rb) t, same_length, short), few), tt) in
+        let w6 : Reached st fa fb (both_sides r1 ba rb bb (own st.key answered ∷ own st.key asked ∷ t ∷ k.bag)) = Goes _ _ w5 (By B _ _ (Says (own st.key answered) (Updates s (push vb (Made (part_kind p))) 1 view_b (omega arith) formed))) in
+        let same : t ≡ next_text s (recipient_for st A va.role) st.key (chain_in s r1) p = ap (λ r. next_text s (recipient_for st B r) st.key (chain_in s k.rb) p) recipient ∙ ap (λ ts. next_text s st.b st.key ts p) (sym k.chains ∙ sym chain1) ∙ ap (λ r. next_text s (recipient_for st A r) st.key (chain_in s r1) p) (sym origin) in
+        let found = Listed answered (length (chain_in s rb)) (last_texts 1 (chain_in s rb)) formed first refl (subst (Among t) (sym one) first) in
+        let taken = one-text s (side r1 ba) (part_kind p) (Took (part_kind p)) t As_taken in
+        record {
+          asked = length (chain_in s r1);
+          asked_last = (head_of (chain_in s r1)).last;
+          answered = length (chain_in s rb);
+          carried = last_texts 1 (chain_in s rb);
+          carries = ap length one;
+          run = record {
+            ra = r2;
+            rb = rb;
+            bag = own st.key answered ∷ own st.key asked ∷ t ∷ k.bag;
+            reached = Goes _ _ w6 (By A _ _ (Takes s (push va Rescue) p t view1 took f found same));
+            view_a = view-here s r1 (stored s (Took (part_kind p)) t) (push va Rescue) (session-self s) view1;
+            view_b = view_b;
+            chains = taken ∙ ap (λ ts. ts ++ t ∷ []) (chain1 ∙ k.chains) ∙ sym chain_b;
+            long = ap length taken ∙ length_push (chain_in s r1) t ∙ ap (λ ts. length ts + 1) chain1 ∙ ap (λ n. n + 1) k.long ∙ sym (length_push va.tale (part_kind p));
+            keeps = λ u i. kept (own st.key answered) (own st.key asked) (t ∷ k.bag) u i;
+          };
+        }
 
   -- the recovery's last message
   pub succeeds_a : (va vb : View) (ba bb : Book) (old : List Text) (k : Run va vb ba bb old) → length va.tale ≤ 11
       → (n : ℕ) × (last : Link) × Run va vb ba bb (own st.key (message_from st A s (body.Success n last)) ∷ old)
-  succeeds_a va vb ba bb old k short =
-      (length (chain_in s k.ra), (head_of (chain_in s k.ra)).last,
-      say_a va vb ba bb old k (own st.key (message_from st A s (body.Success (length (chain_in s k.ra)) (head_of (chain_in s k.ra)).last))) (Succeeds s va k.view_a (omega (arith, k.long, short), link_at_formed (chain_in s k.ra) (length (chain_in s k.ra)))))
+  succeeds_a va vb ba bb old k short = (
+    length (chain_in s k.ra),
+    (head_of (chain_in s k.ra)).last,
+    say_a va vb ba bb old k (own st.key (message_from st A s (body.Success (length (chain_in s k.ra)) (head_of (chain_in s k.ra)).last))) (Succeeds s va k.view_a (omega (arith, k.long, short), link_at_formed (chain_in s k.ra) (length (chain_in s k.ra)))),
+  )

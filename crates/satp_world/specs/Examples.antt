@@ -78,6 +78,22 @@ pub record Endings (st : Setting) (a b : Founding) (s : SessionId) (terms : Term
   pub recipient_aborts : Allows (first_book a) Lock terms → Allows (first_book b) Mint terms → CanEnd st a b s (take 7 eleven ++ rejected) Released Released
   -- commit-prepare is lost and the origin stops: it is said again in the round, and the session commits
   pub says_again : Allows (first_book a) Lock terms → Allows (first_book b) Mint terms → CanRecover st a b s 0 eleven Burnt Assigned
+  -- commit-ready is lost and the origin stops: it finds it in the answer, and the session commits
+  pub finds_again : Allows (first_book a) Lock terms → Allows (first_book b) Mint terms → CanRecover st a b s 1 eleven Burnt Assigned
+  -- lock-receipt is lost and the origin stops: it finds it in the answer, and the session is rolled back, since it isn't ready
+  pub rescues : Allows (first_book a) Lock terms → CanRecover st a b s 1 (take 6 eleven ++ rolled_back) Released Absent
 
+-- gateways, ledgers, a session and terms that meet both conditions
+pub record Case : Type 0 where
+  pub st : Setting
+  pub a : Founding
+  pub b : Founding
+  pub s : SessionId
+  pub terms : Terms
+  pub named : s.gateway ≡ st.a
+  pub can_lock : Allows (first_book a) Lock terms
+  pub can_mint : Allows (first_book b) Mint terms
+
+-- every ending can be reached, and there are such ledgers
 abbrev pub LawEndings : Type 0
-LawEndings = (st : Setting) (a b : Founding) (s : SessionId) (terms : Terms) → s.gateway ≡ st.a → Endings st a b s terms
+LawEndings = ((st : Setting) (a b : Founding) (s : SessionId) (terms : Terms) → s.gateway ≡ st.a → Endings st a b s terms) × Case

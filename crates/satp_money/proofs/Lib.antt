@@ -5,3 +5,6 @@ pub mod Maps
 pub mod Steps
 pub mod Running
 pub mod Begins
+pub mod RuleLaw
+pub mod StepLaw
+pub mod TotalsLaw

@@ -268,6 +268,10 @@ impl LedgerCore for Outputs {
 
     const KIND: LedgerKind = LedgerKind::Outputs;
 
+    ghost use Rattle.satp_base.specs.declared.ledger.LedgerKind.TheVariants as kind;
+
+    ghost KIND = { kind.Outputs };
+
     fn begin(alloc: Global, genesis: &Genesis) -> Result<Outputs, Memory>
         ensures book { IfOk result (λ core. book_of core ≡ founded genesis.now) }
         ensures outputs { IfOk result (λ core. unspent_of core ≡ first_unspent genesis.now.holds) }

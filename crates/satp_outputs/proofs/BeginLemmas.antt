@@ -1,12 +1,12 @@
 -- The outputs of a founding.
-use Rattle.std.proofs.Common.{◌≡◌, ℕ, zero, suc, ◌+◌, ◌<◌, ◌≤◌, ◌&&◌, Bool, List, [], ◌∷◌, ◌++◌, length, take, Option, Some, None, refl, ap, ap₂, subst, sym, ◌∙◌, arith, add-one}
+use Rattle.std.proofs.Common.{◌≡◌, ℕ, zero, suc, ◌+◌, ◌<◌, ◌≤◌, ◌&&◌, Bool, List, [], ◌∷◌, ◌++◌, length, take, Option, Some, None, refl, ap, ap₂, sym, ◌∙◌, arith, add-one}
 use Rattle.std.specs.Prelude.{option_map, slice_get}
 use Rattle.std.specs.List.{sum_by}
 use Rattle.std.specs.FinMap.{from_entries}
 use Rattle.std.proofs.lemmas.List.Sums.{sum_by-cons}
-use Rattle.satp_base.specs.Founding.{Founding, counted, equal_names, held_among, most_holds}
+use Rattle.satp_base.specs.Founding.{Founding, counted, equal_names, most_holds}
 use Rattle.satp_base.specs.Genesis.{IsGenesis, hold_triple}
-use Rattle.satp_base.specs.Money.{held, held_of_all, sum_entries}
+use Rattle.satp_base.specs.Money.{sum_entries}
 use Rattle.satp_base.specs.Keys.{session_cmp}
 use Rattle.satp_base.specs.declared.amount.Amount.{Amount}
 use Rattle.satp_base.specs.declared.genesis.Hold.{Hold}

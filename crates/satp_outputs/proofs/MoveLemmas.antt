@@ -1,7 +1,7 @@
 -- What each line of the table does to the outputs and their numbers.
 use Rattle.std.proofs.Common.{◌≡◌, inr, ℕ, zero, suc, ◌+◌, ◌*◌, ◌^◌, ◌<◌, ◌≤◌, ◌&&◌, ◌||◌, not, nat_lt, Bool, true, false, cond, List, [], ◌∷◌, ◌++◌, length, All, Result, Ok, Err, refl, ap, ap₂, subst, sym, ◌∙◌, arith}
 use Rattle.std.specs.Prelude.{OnErr, OnOk}
-use Rattle.std.specs.List.{AllByRecursion, filter, sum_by}
+use Rattle.std.specs.List.{AllByRecursion, sum_by}
 use Rattle.std.specs.List.Sorted.{IsStrictlySortedBy}
 use Rattle.std.specs.FinMap.{from_entries, insert}
 use Rattle.std.specs.Map.{keys_of}
@@ -33,7 +33,7 @@ use Rattle.satp_money.proofs.Steps.{absent_terms, give_agrees, sum_most, take_ag
 use Rattle.satp_outputs.specs.Steps.{EndsAt, above, most_made, most_made_by}
 use Rattle.satp_outputs.specs.Unspent.{Numbered, Unspent, after_lock, asset_sum, is_own, own_below, own_sum, rest_of, stepped, untaken, with_change, with_output}
 use Rattle.satp_outputs.specs.declared.output.Output.{Output}
-use Rattle.satp_outputs.proofs.OutputLemmas.{give_rises, less, lock_rises, own_within, rest_is, sum_below, untaken_is}
+use Rattle.satp_outputs.proofs.OutputLemmas.{give_rises, lock_rises, own_within, rest_is, sum_below, untaken_is}
 
 not_given : (k n : ℕ) → nat_lt k n ≡ false → n ≤ k
 not_given k n e = omega (arith, leb-false (suc k) n e)

@@ -1,5 +1,5 @@
 -- Numbers are given once.
-use Rattle.std.proofs.Common.{◌≡◌, ℕ, zero, suc, ◌+◌, ◌<◌, ◌≤◌, ◌==◌, not, Bool, true, false, cond, List, [], ◌∷◌, ◌++◌, length, All, Option, Some, None, refl, ap, subst, sym, ◌∙◌, arith}
+use Rattle.std.proofs.Common.{◌≡◌, ℕ, zero, suc, ◌+◌, ◌<◌, ◌≤◌, ◌==◌, not, Bool, true, false, cond, List, [], ◌∷◌, ◌++◌, length, Option, Some, None, refl, ap, subst, sym, ◌∙◌, arith}
 use Rattle.std.specs.List.{AllByRecursion, filter, fold}
 use Rattle.std.specs.List.Sorted.{IsStrictlySortedBy}
 use Rattle.std.specs.Map.{keys_of, lookup}
@@ -16,7 +16,7 @@ use Rattle.satp_base.specs.declared.ledger.LedgerOp.TheVariants.{Lock, Assign, R
 use Rattle.satp_base.specs.declared.message.Terms.{Terms}
 use Rattle.satp_base.specs.declared.name.Name.{Name}
 use Rattle.satp_outputs.specs.Laws.{AreNumbered, Follows}
-use Rattle.satp_outputs.specs.Unspent.{Move, Numbered, Unspent, after_lock, first_unspent, hold_output, is_taken, numbered, output_at, rest_of, stepped, unspent_after, untaken, with_change, with_output}
+use Rattle.satp_outputs.specs.Unspent.{Move, Numbered, Unspent, after_lock, first_unspent, is_taken, numbered, rest_of, stepped, unspent_after, untaken, with_change, with_output}
 use Rattle.satp_outputs.specs.declared.output.Output.{Output}
 
 abbrev IsAbove : ℕ → List Numbered → Type 0

@@ -1,5 +1,5 @@
 -- What a call leaves of the outputs, where a taking ends, and how many outputs there may be.
-use Rattle.std.specs.Prelude.{◌≡◌, ℕ, ◌+◌, ◌<◌, ◌||◌, Bool, not, nat_lt, suc, List, Option, Some, None, Result, Ok, Err}
+use Rattle.std.specs.Prelude.{◌≡◌, ℕ, ◌+◌, ◌<◌, ◌||◌, not, nat_lt, suc, List, Option, Some, None, Result, Ok, Err}
 use Rattle.std.specs.List.{filter}
 use Rattle.satp_base.specs.declared.amount.Amount.{Amount}
 use Rattle.satp_base.specs.declared.ledger.Answer.{Answer}

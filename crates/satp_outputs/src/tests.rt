@@ -124,7 +124,10 @@ fn new_outputs_take_the_next_numbers(rt: HostRuntime) -> Result<(), Fail> {
     );
     assert_eq!(rt; ledger.output(4), gold(b"ann", 100)?);
     let coming = terms(b"bob", b"ann", 7)?;
-    assert_eq!(rt; ledger.apply(LedgerOp::Mint, two, &coming), Ok(Answer::Done));
+    assert_eq!(rt;
+        ledger.apply(LedgerOp::Mint, two, &coming),
+        Ok(Answer::Done)
+    );
     assert_eq!(rt; ledger.output(5), None);
     assert_eq!(rt;
         ledger.apply(LedgerOp::Assign, two, &coming),

@@ -68,12 +68,7 @@ impl UnspentMap {
     }
 
     /// The change of a lock, where it isn't 0.
-    pub(crate) fn add_change(
-        &mut self,
-        asset: Name,
-        owner: Name,
-        rest: u64,
-    ) -> Result<(), Memory>
+    pub(crate) fn add_change(&mut self, asset: Name, owner: Name, rest: u64) -> Result<(), Memory>
         requires room { self.old.next < 2 ^ 127 }
         ensures ok { OnOk result (unspent_in self.new ≡ with_change (unspent_in self.old) asset owner rest) }
         ensures err { OnErr result (unspent_in self.new ≡ unspent_in self.old) }
@@ -101,8 +96,7 @@ impl UnspentMap {
     pub(crate) fn remove_to(&mut self, asset: Name, owner: Name, last: u128)
         ensures { unspent_in self.new ≡ above (unspent_in self.old) asset owner last }
     {
-        self.outputs
-            .retain(|number, output| *number > last || !is_own(asset, owner, *output));
+        self.outputs.retain(|number, output| *number > last || !is_own(asset, owner, *output));
     }
 
     /// Where the taking of an amount ends; none exactly where the owner's outputs don't suffice.

@@ -1,4 +1,4 @@
-use Rattle.std.proofs.Common.{◌≡◌, ◌∙◌, arith, refl}
+use Rattle.std.proofs.Common.{arith, refl}
 use Rattle.satp_outputs.specs.States.{unspent_in}
 use Rattle.satp_outputs.proofs.BeginLemmas.{all_outputs, few_numbers, more_outputs}
 use Rattle.satp_outputs.proofs.begin.first_outputs.Goals as goal

@@ -1,4 +1,4 @@
-use Rattle.std.proofs.Common.{◌≡◌, ◌<◌, ◌≤◌, ◌+◌, take}
+use Rattle.std.proofs.Common.{◌≡◌, ◌<◌, take}
 use Rattle.satp_base.specs.Genesis.{IsGenesis}
 use Rattle.satp_outputs.specs.States.{unspent_in}
 use Rattle.satp_outputs.specs.Unspent.{first_unspent}

@@ -1,4 +1,4 @@
-use Rattle.std.proofs.Common.{◌≡◌, ◌∙◌}
+use Rattle.std.proofs.Common.{◌∙◌}
 use Rattle.satp_money.proofs.Moves.{each_is}
 use Rattle.satp_outputs.specs.States.{book_of}
 use Rattle.satp_outputs.proofs.MoveLemmas.{own_fits}

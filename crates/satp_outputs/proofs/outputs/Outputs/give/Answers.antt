@@ -1,4 +1,4 @@
-use Rattle.std.proofs.Common.{◌≡◌, ◌∙◌, ℕ, ap, sym}
+use Rattle.std.proofs.Common.{◌∙◌, ℕ, ap}
 use Rattle.satp_base.specs.Ledgers.{Entries}
 use Rattle.satp_money.proofs.Steps.{entry_put, entry_there, from_err, from_ok, not_giving}
 use Rattle.satp_outputs.specs.States.{book_of, unspent_in, unspent_of}

@@ -1,4 +1,4 @@
-use Rattle.std.proofs.Common.{◌≡◌, ◌∙◌, ◌≤◌, ℕ, subst, sym}
+use Rattle.std.proofs.Common.{◌∙◌, ◌≤◌, ℕ, subst, sym}
 use Rattle.satp_outputs.specs.States.{book_of}
 use Rattle.satp_outputs.specs.Steps.{EndsAt}
 use Rattle.satp_outputs.proofs.MoveLemmas.{ends_within, lock_rule, own_fits}

@@ -1,4 +1,4 @@
-use Rattle.std.proofs.Common.{◌≡◌, ◌∙◌, ap, sym}
+use Rattle.std.proofs.Common.{ap}
 use Rattle.std.specs.FinMap.{from_entries}
 use Rattle.satp_base.specs.Ledgers.{Entries}
 use Rattle.satp_base.proofs.GenesisReading.{on_ok}

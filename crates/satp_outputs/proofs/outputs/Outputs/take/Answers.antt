@@ -1,4 +1,4 @@
-use Rattle.std.proofs.Common.{◌≡◌, ◌∙◌, ap, refl, sym}
+use Rattle.std.proofs.Common.{ap, refl}
 use Rattle.satp_base.specs.Ledgers.{Entries}
 use Rattle.satp_base.specs.declared.ledger.LedgerOp.TheVariants.{Lock}
 use Rattle.satp_money.proofs.Steps.{entry_put, from_ok}

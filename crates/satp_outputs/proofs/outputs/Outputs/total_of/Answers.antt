@@ -1,4 +1,4 @@
-use Rattle.std.proofs.Common.{◌≡◌, ◌∙◌, arith, sym}
+use Rattle.std.proofs.Common.{◌∙◌, arith, sym}
 use Rattle.satp_money.proofs.Moves.{all_is}
 use Rattle.satp_money.proofs.Steps.{sum_most}
 use Rattle.satp_outputs.specs.States.{book_of}

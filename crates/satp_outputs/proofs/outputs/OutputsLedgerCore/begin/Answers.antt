@@ -1,9 +1,8 @@
-use Rattle.std.proofs.Common.{◌≡◌, ◌∙◌, ap, refl, sym, subst}
-use Rattle.std.specs.FinMap.{from_entries}
+use Rattle.std.proofs.Common.{◌∙◌, ap, refl, sym, subst}
 use Rattle.satp_base.specs.Founding.{Founding}
 use Rattle.satp_base.specs.Genesis.{IsGenesis}
 use Rattle.satp_outputs.specs.States.{unspent_in}
-use Rattle.satp_outputs.specs.Unspent.{Unspent, first_unspent}
+use Rattle.satp_outputs.specs.Unspent.{first_unspent}
 use Rattle.satp_outputs.proofs.BeginLemmas.{first_agrees, first_numbers}
 use Rattle.satp_outputs.proofs.outputs.OutputsLedgerCore.begin.Goals as goal
 

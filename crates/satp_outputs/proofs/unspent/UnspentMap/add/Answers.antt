@@ -1,6 +1,6 @@
-use Rattle.std.proofs.Common.{◌≡◌, ◌<◌, ◌∙◌, ◌+◌, All, List, ap, subst, sym}
+use Rattle.std.proofs.Common.{◌<◌, ◌∙◌, ◌+◌, All, List, ap, subst, sym}
 use Rattle.satp_money.proofs.Steps.{from_ok}
-use Rattle.satp_outputs.specs.Unspent.{Numbered, Unspent}
+use Rattle.satp_outputs.specs.Unspent.{Numbered}
 use Rattle.satp_outputs.proofs.OutputLemmas.{below_more, insert_last}
 use Rattle.satp_outputs.proofs.unspent.UnspentMap.add.Goals as goal
 

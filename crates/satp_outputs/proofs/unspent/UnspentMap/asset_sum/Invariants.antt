@@ -1,7 +1,7 @@
 use Rattle.std.proofs.Common.{◌≡◌, ◌+◌}
 use Rattle.std.specs.List.{sum_by}
 use Rattle.satp_base.specs.Founding.{counted, equal_names}
-use Rattle.satp_outputs.specs.Unspent.{Numbered, is_own}
+use Rattle.satp_outputs.specs.Unspent.{Numbered}
 use Rattle.satp_outputs.proofs.unspent.UnspentMap.asset_sum.Given as goal
 
 abbrev pub invariant-loop-output : goal.invariant-loop-output

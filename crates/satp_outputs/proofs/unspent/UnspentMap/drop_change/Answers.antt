@@ -1,4 +1,4 @@
-use Rattle.std.proofs.Common.{◌≡◌, ◌∙◌, sym}
+use Rattle.std.proofs.Common.{◌∙◌, sym}
 use Rattle.satp_outputs.proofs.OutputLemmas.{popped}
 use Rattle.satp_outputs.proofs.unspent.UnspentMap.drop_change.Goals as goal
 

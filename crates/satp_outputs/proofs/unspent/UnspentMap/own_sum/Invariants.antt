@@ -1,6 +1,6 @@
 use Rattle.std.proofs.Common.{◌≡◌, ◌+◌}
 use Rattle.std.specs.List.{sum_by}
-use Rattle.satp_base.specs.Founding.{counted, equal_names}
+use Rattle.satp_base.specs.Founding.{counted}
 use Rattle.satp_outputs.specs.Unspent.{Numbered, is_own}
 use Rattle.satp_outputs.proofs.unspent.UnspentMap.own_sum.Given as goal
 

@@ -1,8 +1,7 @@
-use Rattle.std.proofs.Common.{◌≡◌, ◌<◌, ◌∙◌, ◌||◌, not, nat_lt, All, List, ap, subst, sym, rules}
-use Rattle.std.specs.List.{filter}
+use Rattle.std.proofs.Common.{◌<◌, ◌||◌, not, nat_lt, All, List, ap, subst, sym, rules}
 use Rattle.std.proofs.lemmas.List.Elements.{All-filter}
 use Rattle.std.proofs.lemmas.Map.Made.{filter_same_pairs}
-use Rattle.satp_outputs.specs.Unspent.{Numbered, Unspent, is_own}
+use Rattle.satp_outputs.specs.Unspent.{Numbered, is_own}
 use Rattle.satp_outputs.proofs.unspent.UnspentMap.remove_to.Goals as goal
 
 pub invariant_of-self : goal.invariant_of-self

@@ -9,5 +9,3 @@ mod hash_tests;
 mod journal_tests;
 #[cfg(test)]
 mod jws_tests;
-#[cfg(test)]
-mod ledger_tests;

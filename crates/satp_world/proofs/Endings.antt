@@ -320,19 +320,22 @@ module _ (st : Setting) (fa fb : Founding) (s : SessionId) (named : s.gateway â‰
       let k4 = note_a st fa fb s named _ _ _ _ _ k3 (Did Release) (Answered Release Answer.Done refl refl) tt (entry-moved (first_book fa) Release s terms) in
       let k5 = sends_a st fa fb s named _ _ _ _ _ k4 (Plain Rollback) refl refl (Due refl) refl (Free (refl, Rolling 0 1 (omega arith) (omega arith))) refl in
       let k6 = sends_b st fa fb s named _ _ _ _ _ k5 (Plain RollbackAck) refl refl (Due refl) refl (Free (refl, Rolling 0 2 (omega arith) (omega arith))) refl in
-      let (ended, ended_last, last) = succeeds_a st fa fb s named _ _ _ _ _ k6 (omega arith) in
-      (both_sides last.ra _ last.rb _ last.bag, ends _ _ _ _ _ last (take 2 eleven ++ rolled_back) Released Absent refl refl refl (entry-moved (first_book fa) Release s terms) (no-entry fb s), record {
-        asked = again.asked;
-        asked_last = again.asked_last;
-        recover = last.keeps _ (later (later first));
-        answered = again.answered;
-        carried = again.carried;
-        update = last.keeps _ (later first);
-        carries = again.carries;
-        ended = ended;
-        ended_last = ended_last;
-        success = last.keeps _ first;
-      })
+      let (ended, ended_last, last) = succeeds_a st fa fb s named _ _ _ _ _ k6 (omega arith) in (
+        both_sides last.ra _ last.rb _ last.bag,
+        ends _ _ _ _ _ last (take 2 eleven ++ rolled_back) Released Absent refl refl refl (entry-moved (first_book fa) Release s terms) (no-entry fb s),
+        record {
+          asked = again.asked;
+          asked_last = again.asked_last;
+          recover = last.keeps _ (later (later first));
+          answered = again.answered;
+          carried = again.carried;
+          update = last.keeps _ (later first);
+          carries = again.carries;
+          ended = ended;
+          ended_last = ended_last;
+          success = last.keeps _ first;
+        },
+      )
 
 -- ---- a case in which both ledgers allow the transfer
 

@@ -72,19 +72,19 @@ absent-terms b s t e = go (entry_of b.entries s) e _
     go Released e kept = absurd (cc e)
 
 module _ (b : Book) (op : LedgerOp) (s : SessionId) (t : Terms) (a o : Name) where
-  abbrev T : Terms
-  T = terms_of b.entries s t
+  abbrev its_terms : Terms
+  its_terms = terms_of b.entries s t
 
   abbrev is_theirs : Bool
-  is_theirs = equal_names a T.asset && equal_names o T.originator
+  is_theirs = equal_names a its_terms.asset && equal_names o its_terms.originator
 
   abbrev is_for_them : Bool
-  is_for_them = equal_names a T.asset && equal_names o T.beneficiary
+  is_for_them = equal_names a its_terms.asset && equal_names o its_terms.beneficiary
 
-  taken-moved : sum_entries (taken a o) (moved b op s t).entries + counted (is_taken (entry_of b.entries s) && is_theirs) T.amount.number ≡ sum_entries (taken a o) b.entries + counted (is_taken (result_of op) && is_theirs) T.amount.number
+  taken-moved : sum_entries (taken a o) (moved b op s t).entries + counted (is_taken (entry_of b.entries s) && is_theirs) its_terms.amount.number ≡ sum_entries (taken a o) b.entries + counted (is_taken (result_of op) && is_theirs) its_terms.amount.number
   taken-moved = sum_moved is_taken (λ x. equal_names a x.asset && equal_names o x.originator) refl b.entries op s t
 
-  given-moved : sum_entries (given a o) (moved b op s t).entries + counted (is_given (entry_of b.entries s) && is_for_them) T.amount.number ≡ sum_entries (given a o) b.entries + counted (is_given (result_of op) && is_for_them) T.amount.number
+  given-moved : sum_entries (given a o) (moved b op s t).entries + counted (is_given (entry_of b.entries s) && is_for_them) its_terms.amount.number ≡ sum_entries (given a o) b.entries + counted (is_given (result_of op) && is_for_them) its_terms.amount.number
   given-moved = sum_moved is_given (λ x. equal_names a x.asset && equal_names o x.beneficiary) refl b.entries op s t
 
   still-covered : (t' g' t0 t1 g0 g1 u g h : ℕ) → t' + t0 ≡ u + t1 → g' + g0 ≡ g + g1 → g0 ≡ 0 → t1 ≤ t0 → u ≤ h + g → t' ≤ h + g'
@@ -92,8 +92,8 @@ module _ (b : Book) (op : LedgerOp) (s : SessionId) (t : Terms) (a o : Name) whe
 
   covered-else : IsCovered b → leads op (entry_of b.entries s) ≡ true → is_lock op ≡ false → sum_entries (taken a o) (moved b op s t).entries ≤ held b.genesis a o + sum_entries (given a o) (moved b op s t).entries
   covered-else c l n =
-      still-covered _ _ (counted (is_taken (entry_of b.entries s) && is_theirs) T.amount.number) (counted (is_taken (result_of op) && is_theirs) T.amount.number) (counted (is_given (entry_of b.entries s) && is_for_them) T.amount.number) (counted (is_given (result_of op) && is_for_them) T.amount.number) (sum_entries (taken a o) b.entries) (sum_entries (given a o) b.entries) _
-      taken-moved given-moved (given_before op (entry_of b.entries s) is_for_them T.amount.number l) (no-more-taken op (entry_of b.entries s) is_theirs T.amount.number l n) (c a o)
+      still-covered _ _ (counted (is_taken (entry_of b.entries s) && is_theirs) its_terms.amount.number) (counted (is_taken (result_of op) && is_theirs) its_terms.amount.number) (counted (is_given (entry_of b.entries s) && is_for_them) its_terms.amount.number) (counted (is_given (result_of op) && is_for_them) its_terms.amount.number) (sum_entries (taken a o) b.entries) (sum_entries (given a o) b.entries) _
+      taken-moved given-moved (given_before op (entry_of b.entries s) is_for_them its_terms.amount.number l) (no-more-taken op (entry_of b.entries s) is_theirs its_terms.amount.number l n) (c a o)
 
 -- the amount that is locked was free
 lock-room : (b : Book) (x : Terms) (a o : Name) → IsCovered b → x.amount.number ≤ free_of b x.asset x.originator → counted (equal_names a x.asset && equal_names o x.originator) x.amount.number + sum_entries (taken a o) b.entries ≤ held b.genesis a o + sum_entries (given a o) b.entries

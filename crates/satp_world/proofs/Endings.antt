@@ -1,5 +1,5 @@
 -- Whole sessions, move by move.
-use Rattle.std.proofs.Common.{◌≡◌, ◌≢◌, ℕ, ◌+◌, ◌<◌, ◌≤◌, true, List, [], ◌∷◌, ◌++◌, None, get_or, refl, ap, ◌∙◌, arith, inr}
+use Rattle.std.proofs.Common.{◌≡◌, ◌≢◌, ℕ, ◌+◌, ◌<◌, ◌≤◌, true, List, [], ◌∷◌, ◌++◌, Some, None, get_or, refl, ap, ◌∙◌, arith, inr}
 use Rattle.std.specs.Prelude.{take, replicate, IsTrue}
 use Rattle.std.specs.List.{sum_by}
 use Rattle.std.specs.FinMap.{get-empty}
@@ -41,7 +41,7 @@ use Rattle.satp_world.specs.Worlds.Among.{first, later}
 use Rattle.satp_world.specs.Worlds.Gateway.{A}
 use Rattle.satp_world.specs.Examples.{CanEnd, Case, Endings, CanRecover, Ends, LawEndings, first_book, rejected, rolled_back}
 use Rattle.satp_world.proofs.RuleMoves.{entry-moved}
-use Rattle.satp_world.proofs.Runs.{Run, act_a, act_b, begins, both_sides, finds_a, note_a, note_b, says_again_a, sends_a, sends_b, succeeds_a}
+use Rattle.satp_world.proofs.Runs.{Run, act_a, act_b, begins, begins_again, both_sides, finds_a, note_a, note_b, says_again_a, sends_a, sends_b, succeeds_a}
 use Rattle.satp_world.proofs.WorldLaw.{law_safety}
 
 no-entry : (f : Founding) (s : SessionId) → entry_of (first_book f).entries s ≡ Absent
@@ -278,6 +278,65 @@ module _ (st : Setting) (fa fb : Founding) (s : SessionId) (named : s.gateway �
         },
       )
 
+  passes_the_cap : Allows (first_book fa) Lock terms → (cap : ℕ) → cap_of fb terms.asset ≡ Some cap → cap < total_of (first_book fb) terms.asset + terms.amount.number → CanEnd st fa fb s (take 7 eleven ++ rejected) Released Absent
+  passes_the_cap can_lock cap has past =
+      let k0 = begins st fa fb s named terms in
+      let k1 = sends_b st fa fb s named _ _ _ _ _ k0 (Plain ProposalReceipt) refl refl (Due refl) refl (Free (refl, Onward 2 (omega arith))) refl in
+      let k2 = sends_a st fa fb s named _ _ _ _ _ k1 (Plain TransferCommence) refl refl (Due refl) refl (Free (refl, Onward 3 (omega arith))) refl in
+      let k3 = sends_b st fa fb s named _ _ _ _ _ k2 (Plain CommenceAck) refl refl (Due refl) refl (Free (refl, Onward 4 (omega arith))) refl in
+      let k4 = act_a st fa fb s named _ _ _ _ _ k3 Lock Answer.Done (moved (first_book fa) Lock s terms) refl (moves_to (first_book fa) Lock s terms Absent (no-entry fa s) refl can_lock) in
+      let k5 = note_a st fa fb s named _ _ _ _ _ k4 (Did Lock) (Answered Lock Answer.Done refl refl) tt (entry-moved (first_book fa) Lock s terms) in
+      let k6 = sends_a st fa fb s named _ _ _ _ _ k5 (Plain LockAssert) refl refl (Due refl) refl (Free (refl, Onward 5 (omega arith))) refl in
+      let k7 = sends_b st fa fb s named _ _ _ _ _ k6 (Plain LockReceipt) refl refl (Due refl) refl (Free (refl, Onward 6 (omega arith))) refl in
+      let k8 = sends_a st fa fb s named _ _ _ _ _ k7 (Plain CommitPrepare) refl refl (Due refl) refl (Free (refl, Onward 7 (omega arith))) refl in
+      let k9 = note_b st fa fb s named _ _ _ _ _ k8 (Chose (Back cause.MintCapped)) (Answered Mint (Answer.Capped (total_of (first_book fb) terms.asset)) refl refl) tt (Answer.Capped (total_of (first_book fb) terms.asset), (no-entry fb s, refl, (cap, has, past), refl), refl) in
+      let k10 = sends_b st fa fb s named _ _ _ _ _ k9 (Reject reason.MintCapped) refl refl (Due refl) tt (Free (refl, Rejecting 3 1 (omega arith) (omega arith))) refl in
+      let k11 = note_a st fa fb s named _ _ _ _ _ k10 (Chose (Back cause.Rejected)) (Due refl) tt tt in
+      let k12 = act_a st fa fb s named _ _ _ _ _ k11 Release Answer.Done (moved (moved (first_book fa) Lock s terms) Release s terms) refl (moves_to (moved (first_book fa) Lock s terms) Release s terms Locked (entry-moved (first_book fa) Lock s terms) refl tt) in
+      let k13 = note_a st fa fb s named _ _ _ _ _ k12 (Did Release) (Answered Release Answer.Done refl refl) tt (entry-moved (moved (first_book fa) Lock s terms) Release s terms) in
+      let k14 = sends_a st fa fb s named _ _ _ _ _ k13 (Plain Rollback) refl refl (Due refl) refl (Free (refl, Rejecting 3 2 (omega arith) (omega arith))) refl in
+      let k15 = sends_b st fa fb s named _ _ _ _ _ k14 (Plain RollbackAck) refl refl (Due refl) refl (Free (refl, Rejecting 3 3 (omega arith) (omega arith))) refl in
+      (both_sides k15.ra _ k15.rb _ k15.bag, ends _ _ _ _ _ k15 (take 7 eleven ++ rejected) Released Absent refl refl refl (entry-moved (moved (first_book fa) Lock s terms) Release s terms) (no-entry fb s))
+
+  declines : CanEnd st fa fb s (take 1 eleven ++ rejected) Released Absent
+  declines =
+      let k0 = begins st fa fb s named terms in
+      let k1 = note_b st fa fb s named _ _ _ _ _ k0 (Chose (Back cause.Aborted)) (Free (refl, refl, refl)) tt tt in
+      let k2 = sends_b st fa fb s named _ _ _ _ _ k1 (Reject reason.Aborted) refl refl (Due refl) tt (Free (refl, Rejecting 0 1 (omega arith) (omega arith))) refl in
+      let k3 = note_a st fa fb s named _ _ _ _ _ k2 (Chose (Back cause.Rejected)) (Due refl) tt tt in
+      let k4 = act_a st fa fb s named _ _ _ _ _ k3 Release Answer.Done (moved (first_book fa) Release s terms) refl (moves_to (first_book fa) Release s terms Absent (no-entry fa s) refl tt) in
+      let k5 = note_a st fa fb s named _ _ _ _ _ k4 (Did Release) (Answered Release Answer.Done refl refl) tt (entry-moved (first_book fa) Release s terms) in
+      let k6 = sends_a st fa fb s named _ _ _ _ _ k5 (Plain Rollback) refl refl (Due refl) refl (Free (refl, Rejecting 0 2 (omega arith) (omega arith))) refl in
+      let k7 = sends_b st fa fb s named _ _ _ _ _ k6 (Plain RollbackAck) refl refl (Due refl) refl (Free (refl, Rejecting 0 3 (omega arith) (omega arith))) refl in
+      (both_sides k7.ra _ k7.rb _ k7.bag, ends _ _ _ _ _ k7 (take 1 eleven ++ rejected) Released Absent refl refl refl (entry-moved (first_book fa) Release s terms) (no-entry fb s))
+
+  proposes_again : CanRecover st fa fb s 0 (take 2 eleven ++ rolled_back) Released Absent
+  proposes_again =
+      let again = begins_again st fa fb s named terms in
+      let k0 = again.run in
+      let k1 = sends_b st fa fb s named _ _ _ _ _ k0 (Plain ProposalReceipt) refl refl (Due refl) refl (Free (refl, Onward 2 (omega arith))) refl in
+      let k2 = note_a st fa fb s named _ _ _ _ _ k1 (Chose (Back cause.Rescued)) (Due refl) tt tt in
+      let k3 = act_a st fa fb s named _ _ _ _ _ k2 Release Answer.Done (moved (first_book fa) Release s terms) refl (moves_to (first_book fa) Release s terms Absent (no-entry fa s) refl tt) in
+      let k4 = note_a st fa fb s named _ _ _ _ _ k3 (Did Release) (Answered Release Answer.Done refl refl) tt (entry-moved (first_book fa) Release s terms) in
+      let k5 = sends_a st fa fb s named _ _ _ _ _ k4 (Plain Rollback) refl refl (Due refl) refl (Free (refl, Rolling 0 1 (omega arith) (omega arith))) refl in
+      let k6 = sends_b st fa fb s named _ _ _ _ _ k5 (Plain RollbackAck) refl refl (Due refl) refl (Free (refl, Rolling 0 2 (omega arith) (omega arith))) refl in
+      let (ended, ended_last, last) = succeeds_a st fa fb s named _ _ _ _ _ k6 (omega arith) in (
+        both_sides last.ra _ last.rb _ last.bag,
+        ends _ _ _ _ _ last (take 2 eleven ++ rolled_back) Released Absent refl refl refl (entry-moved (first_book fa) Release s terms) (no-entry fb s),
+        record {
+          asked = again.asked;
+          asked_last = again.asked_last;
+          recover = last.keeps _ (later (later first));
+          answered = again.answered;
+          carried = again.carried;
+          update = last.keeps _ (later first);
+          carries = again.carries;
+          ended = ended;
+          ended_last = ended_last;
+          success = last.keeps _ first;
+        },
+      )
+
 -- ---- a case in which both ledgers allow the transfer
 
 abbrev letter : (c : ℕ) → IsTrue (holds_name 1 (c ∷ replicate 31 0)) → Name
@@ -344,6 +403,9 @@ each_ending st a b s terms named = record {
   lacks_funds = lacks_funds st a b s named terms;
   rejects = rejects st a b s named terms;
   recipient_aborts = recipient_aborts st a b s named terms;
+  passes_the_cap = passes_the_cap st a b s named terms;
+  declines = declines st a b s named terms;
+  proposes_again = proposes_again st a b s named terms;
   says_again = says_again st a b s named terms;
   finds_again = finds_again st a b s named terms;
   rescues = rescues st a b s named terms;

@@ -19,6 +19,9 @@ pub mod Chained
 pub mod Growth
 pub mod PairLaw
 pub mod EntryLaw
+pub mod FreshTest
+pub mod FreshCheck
+pub mod ReadOff
 pub mod TextSizes
 pub mod Runs
 pub mod Endings

@@ -23,16 +23,18 @@ use Rattle.satp_base.specs.declared.record.Rec.TheVariants.{Began, Took, Made, D
 use Rattle.satp_base.specs.declared.session.SessionId.{SessionId}
 use Rattle.satp_base.specs.declared.view.View.{View}
 use Rattle.satp_world.specs.Sessions.{HasMint, tale_of}
-use Rattle.satp_world.specs.Worlds.{Gateway, IsNote, Reached, Sayable, Setting, Side, SideMoves, Stored, Text, World, WorldMoves, begun, began_as, chain_in, last_texts, message_from, most_sessions, name_at, recipient_for, session_in, side_at, with_side}
+use Rattle.satp_world.specs.Worlds.{Gateway, IsNote, Reached, Sayable, Setting, Side, SideMoves, Stored, Text, World, WorldMoves, begun, began_as, chain_in, last_texts, message_from, most_sessions, name_at, recipient_for, session_in, side_at, with_side, records_of, view_in}
 use Rattle.satp_world.specs.Worlds.Gateway.{A, B}
 use Rattle.satp_world.specs.Worlds.Reached.{Begins, Goes}
 use Rattle.satp_world.specs.Worlds.Sayable.{Own_text, Recovers, Updates, Succeeds, Knows_none}
 use Rattle.satp_world.specs.Worlds.SideMoves.{Proposes, Accepts, Takes, Makes, Notes, Acts, Says, Stops}
 use Rattle.satp_world.specs.Worlds.WorldMoves.{By}
-use Rattle.satp_world.specs.Limits.{IsLimited, IsOneOf, LawLimits}
+use Rattle.satp_world.specs.Limits.{WasAsked, IsLimited, IsOneOf, LawLimits}
 use Rattle.satp_base.proofs.TaleTable.{tale-short}
 use Rattle.satp_world.proofs.Chained.{message-of}
+use Rattle.satp_world.proofs.Records.{view-none}
 use Rattle.satp_world.proofs.WorldLaw.{law_safety}
+use Rattle.satp_base.proofs.SignatureLemmas.{own_shows}
 
 -- ---- no early burn
 
@@ -77,6 +79,37 @@ said-one st a b w r g _ (Recovers s v e f) = one-of st (message_from st g s (bod
 said-one st a b w r g _ (Updates s v n e c f) = one-of st (message_from st g s (body.Update (length (chain_in s (side_at w g).records)) (last_texts n (chain_in s (side_at w g).records)))) _ f refl
 said-one st a b w r g _ (Succeeds s v e f) = one-of st (message_from st g s (body.Success (length (chain_in s (side_at w g).records)) (head_of (chain_in s (side_at w g).records)).last)) _ f refl
 said-one st a b w r g _ (Knows_none m n l p e f q i k z) = one-of st (message_from st g m.session (body.Update 0 [])) _ z refl
+
+idle : (st : Setting) (g : Gateway) (s : SessionId) → IsMessage (message_from st g s (body.Update 0 []))
+idle st g s = ((omega arith, refl), tt)
+
+same-message : (st : Setting) (m n : Message) (t : Text) → IsMessage m → IsMessage n → t ≡ own st.key m → t ≡ own st.key n → m ≡ n
+same-message st m n t f h d e = own_shows st.key st.key m n f h (sym d ∙ e)
+
+-- what a message says
+said-body : (m n : Message) → m ≡ n → m.body ≡ n.body
+said-body m n e = ap (λ (x : Message). x.body) e
+
+asked-by : (st : Setting) (a b : Founding) (w : World) → Reached st a b w → (g : Gateway) (s : SessionId) (t : Text) → records_of s (side_at w g).records ≡ [] → t ≡ own st.key (message_from st g s (body.Update 0 [])) → Sayable st g (side_at w g).records w.bag t → WasAsked st w g s
+asked-by st a b w r g s t none q (Own_text z v n _ e d p) =
+    let c = (law_safety st a b w r).chains g z v e in
+    let short = tale-short _ c.chain.tale in
+    let m = message-of z (recipient_for st g v.role) st.key (Proposal v.terms ∷ c.rest) n t (omega (arith, short, length-map (Proposal v.terms ∷ c.rest) part_kind)) c.chain.formed (ap (λ ts. slice_get ts n) (sym c.chain.each) ∙ d) in
+    let x = said-body _ _ (same-message st (message_at z (recipient_for st g v.role) (n + 1) m.previous m.part) (message_from st g s (body.Update 0 [])) t m.formed (idle st g s) m.text q) in
+    absurd (cc x)
+asked-by st a b w r g s _ none q (Recovers z v e f) =
+    let x = said-body _ _ (same-message st (message_from st g z (body.Recover (length (chain_in z (side_at w g).records)) (head_of (chain_in z (side_at w g).records)).last)) (message_from st g s (body.Update 0 [])) _ f (idle st g s) refl q) in
+    absurd (cc x)
+asked-by st a b w r g s _ none q (Updates z v n e c f) =
+    let x = same-message st (message_from st g z (body.Update (length (chain_in z (side_at w g).records)) (last_texts n (chain_in z (side_at w g).records)))) (message_from st g s (body.Update 0 [])) _ f (idle st g s) refl q in
+    let here = ap (λ y. view_in y (side_at w g).records) (sym (ap (λ (y : Message). y.session) x)) ∙ e in
+    absurd (cc (sym (view-none s (side_at w g).records none) ∙ here))
+asked-by st a b w r g s _ none q (Succeeds z v e f) =
+    let x = said-body _ _ (same-message st (message_from st g z (body.Success (length (chain_in z (side_at w g).records)) (head_of (chain_in z (side_at w g).records)).last)) (message_from st g s (body.Update 0 [])) _ f (idle st g s) refl q) in
+    absurd (cc x)
+asked-by st a b w r g s _ none q (Knows_none m n l p e f to is i z) =
+    let x = ap (λ (y : Message). y.session) (same-message st (message_from st g m.session (body.Update 0 [])) (message_from st g s (body.Update 0 [])) _ z (idle st g s) refl q) in
+    record { of_the_peer = ap (λ (y : SessionId). y.gateway) (sym x) ∙ p; message = m; formed = f; of_it = x; to_it = to; length = n; last = l; recover = is; said = i }
 
 nothing-first : (st : Setting) (g : Gateway) (t : Text) → Sayable st g [] [] t → ⊥
 nothing-first st g t (Own_text s v n _ e d p) = absurd (cc e)
@@ -155,5 +188,6 @@ law_limits = (λ st a b w r. limited st a b w r, λ st g t z. nothing-first st g
       no_early_burn = no-burn st a b w r;
       no_forgery = λ t g s h n previous part f e not d. not ((law_safety st a b w r).bag t d g s h n previous part f e);
       no_long_update = said-one st a b w r;
+      no_idle_answer = λ g s none z. asked-by st a b w r g s _ none refl z;
       no_more_sessions = bounded st a b w r;
     }

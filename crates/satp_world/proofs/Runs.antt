@@ -10,6 +10,7 @@ use Rattle.satp_base.specs.Founding.{Founding}
 use Rattle.satp_base.specs.LedgerRule.{LedgerRule}
 use Rattle.satp_base.specs.Money.{Book}
 use Rattle.satp_base.specs.Roles.{RoleRule, next_of}
+use Rattle.satp_base.specs.Roles.RoleRule.{Free}
 use Rattle.satp_base.specs.Signatures.{own}
 use Rattle.satp_base.specs.Views.{begin, push}
 use Rattle.satp_base.specs.declared.ledger.Answer.{Answer}
@@ -31,7 +32,7 @@ use Rattle.satp_world.specs.Worlds.Among.{first, later}
 use Rattle.satp_world.specs.Worlds.Delivered.{Alone, Listed}
 use Rattle.satp_world.specs.Worlds.Gateway.{A, B}
 use Rattle.satp_world.specs.Worlds.Reached.{Begins, Goes}
-use Rattle.satp_world.specs.Worlds.Sayable.{Own_text, Recovers, Updates, Succeeds}
+use Rattle.satp_world.specs.Worlds.Sayable.{Own_text, Recovers, Updates, Succeeds, Knows_none}
 use Rattle.satp_world.specs.Worlds.SideMoves.{Proposes, Accepts, Takes, Makes, Notes, Acts, Says, Stops}
 use Rattle.satp_world.specs.Worlds.WorldMoves.{By}
 use Rattle.satp_world.specs.Examples.{first_book}
@@ -342,6 +343,47 @@ module _ (st : Setting) (fa fb : Founding) (s : SessionId) (named : s.gateway �
             keeps = λ u i. kept (own st.key answered) (own st.key asked) (t ∷ k.bag) u i;
           };
         }
+
+  -- The origin's proposal is lost, and the origin stops. Then it starts a round: the recipient knows nothing of the session, and the origin proposes it again.
+  pub begins_again : (terms : Terms) → Round (push (begin Origin terms) Rescue) (begin Recipient terms) (first_book fa) (first_book fb) 0
+  begins_again terms =
+      let t = next_text s st.b st.key [] (Proposal terms) in
+      let x = stored s (Began Origin terms) t in
+      let r1 = x ∷ [] in
+      let r2 = r1 ++ stored s Rescue [] ∷ [] in
+      let rb = stored s (Began Recipient terms) t ∷ [] in
+      let w1 : Reached st fa fb (both_sides r1 (first_book fa) [] (first_book fb) []) = Goes _ _ Begins (By A _ _ (Proposes s terms named refl (omega arith))) in
+      let view1 = view-first s [] x (session-self s) refl in
+      let chain1 : chain_in s r1 ≡ t ∷ [] = chain-here s [] x (session-self s) in
+      let w2 : Reached st fa fb (both_sides r1 (first_book fa) [] (first_book fb) (t ∷ [])) = Goes _ _ w1 (By A _ _ (Says t (Own_text s (begin Origin terms) 0 t view1 (ap (λ ts. slice_get ts 0) chain1) refl))) in
+      let w3 : Reached st fa fb (both_sides r1 (first_book fa) [] (first_book fb) (t ∷ [])) = Goes _ _ w2 (By A _ _ Stops) in
+      let w4 : Reached st fa fb (both_sides r2 (first_book fa) [] (first_book fb) (t ∷ [])) = Goes _ _ w3 (By A _ _ (Notes s (begin Origin terms) Rescue view1 (Free (refl, refl, refl)) tt tt)) in
+      let view2 = view-here s r1 (stored s Rescue []) (begin Origin terms) (session-self s) view1 in
+      let chain2 = no-text s (side r1 (first_book fa)) Rescue [] tt ∙ chain1 in
+      let asked = message_from st A s (body.Recover (length (chain_in s r2)) (head_of (chain_in s r2)).last) in
+      let formed : IsMessage asked = (omega (arith, ap length chain2), link_at_formed (chain_in s r2) (length (chain_in s r2))) in
+      let w5 : Reached st fa fb (both_sides r2 (first_book fa) [] (first_book fb) (own st.key asked ∷ t ∷ [])) = Goes _ _ w4 (By A _ _ (Says (own st.key asked) (Recovers s (push (begin Origin terms) Rescue) view2 formed))) in
+      let answered = message_from st B s (body.Update 0 []) in
+      let w6 : Reached st fa fb (both_sides r2 (first_book fa) [] (first_book fb) (own st.key answered ∷ own st.key asked ∷ t ∷ [])) = Goes _ _ w5 (By B _ _ (Says (own st.key answered) (Knows_none asked (length (chain_in s r2)) (head_of (chain_in s r2)).last named refl formed refl refl first ((omega arith, refl), tt)))) in
+      let w7 : Reached st fa fb (both_sides r2 (first_book fa) [] (first_book fb) (t ∷ own st.key answered ∷ own st.key asked ∷ t ∷ [])) = Goes _ _ w6 (By A _ _ (Says t (Own_text s (push (begin Origin terms) Rescue) 0 t view2 (ap (λ ts. slice_get ts 0) chain2) refl))) in
+      record {
+        asked = length (chain_in s r2);
+        asked_last = (head_of (chain_in s r2)).last;
+        answered = 0;
+        carried = [];
+        carries = refl;
+        run = record {
+          ra = r2;
+          rb = rb;
+          bag = t ∷ own st.key answered ∷ own st.key asked ∷ t ∷ [];
+          reached = Goes _ _ w7 (By B _ _ (Accepts s terms t named refl (omega arith) (Alone first) refl));
+          view_a = view2;
+          view_b = view-first s [] (stored s (Began Recipient terms) t) (session-self s) refl;
+          chains = chain2 ∙ sym (chain-here s [] (stored s (Began Recipient terms) t) (session-self s));
+          long = ap length chain2;
+          keeps = λ u i. later (kept (own st.key answered) (own st.key asked) (t ∷ []) u i);
+        };
+      }
 
   -- the recovery's last message
   pub succeeds_a : (va vb : View) (ba bb : Book) (old : List Text) (k : Run va vb ba bb old) → length va.tale ≤ 11

@@ -51,6 +51,7 @@ use Rattle.satp_world.proofs.Chained.{HalfChain, TiedParts, long, maker-has, mes
 use Rattle.satp_world.proofs.Chained.TiedParts.{Same, Mine_ahead, Peer_ahead}
 use Rattle.satp_world.proofs.PairLaw.{PairStands, PairMoved, session_by, role-is, flip-pair, noted, acted, acted-apart, apart, made, took-by, unmoved, proposed, accepted}
 use Rattle.satp_world.proofs.EntryLaw.{entries-kept}
+use Rattle.satp_world.proofs.ReadOff.{read-off}
 use Rattle.satp_world.proofs.SafeLaw.{safe-of}
 
 -- ---- gateways
@@ -550,5 +551,6 @@ law_safety st a b w r =
       entries = k.entries;
       safe = λ g s h. safe-of (session_in w g s) (session-stands st w k g s h);
       settled = settled-at st w k;
+      read_off = read-off st a b (λ w r. session-stands st w (world-stands st a b w r)) w r;
       goes_on = deal-goes-on st w k;
     }

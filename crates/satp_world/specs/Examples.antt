@@ -1,8 +1,8 @@
 -- Whole sessions as lists of moves from the beginning: each ending can be reached, over texts and ledgers.
-use Rattle.std.specs.Prelude.{◌≡◌, ℕ, ◌<◌, List, [], ◌∷◌, ◌++◌, take, length, None}
+use Rattle.std.specs.Prelude.{◌≡◌, ℕ, ◌<◌, List, [], ◌∷◌, ◌+◌, ◌++◌, take, length, Some, None}
 use Rattle.std.specs.FinMap as map_of
 use Rattle.satp_base.specs.Founding.{Founding}
-use Rattle.satp_base.specs.Money.{Book, cap_of, free_of}
+use Rattle.satp_base.specs.Money.{Book, cap_of, free_of, total_of}
 use Rattle.satp_base.specs.LedgerRule.{Allows}
 use Rattle.satp_base.specs.Tales.{eleven}
 use Rattle.satp_base.specs.declared.ledger.Entry.{Entry}
@@ -74,8 +74,14 @@ pub record Endings (st : Setting) (a b : Founding) (s : SessionId) (terms : Term
   pub lacks_funds : free_of (first_book a) terms.asset terms.originator < terms.amount.number → CanEnd st a b s (take 4 eleven ++ rolled_back) Released Absent
   -- the recipient's ledger refuses the mint, since it doesn't know the asset
   pub rejects : Allows (first_book a) Lock terms → cap_of b terms.asset ≡ None → CanEnd st a b s (take 7 eleven ++ rejected) Released Absent
+  -- or since it would pass the asset's cap
+  pub passes_the_cap : Allows (first_book a) Lock terms → (cap : ℕ) → cap_of b terms.asset ≡ Some cap → cap < total_of (first_book b) terms.asset + terms.amount.number → CanEnd st a b s (take 7 eleven ++ rejected) Released Absent
+  -- the recipient aborts as soon as it has the proposal
+  pub declines : CanEnd st a b s (take 1 eleven ++ rejected) Released Absent
   -- the recipient aborts behind its mint
   pub recipient_aborts : Allows (first_book a) Lock terms → Allows (first_book b) Mint terms → CanEnd st a b s (take 7 eleven ++ rejected) Released Released
+  -- the proposal is lost and the origin stops: the recipient knows nothing of it, it is said again, and the session is rolled back
+  pub proposes_again : CanRecover st a b s 0 (take 2 eleven ++ rolled_back) Released Absent
   -- commit-prepare is lost and the origin stops: it is said again in the round, and the session commits
   pub says_again : Allows (first_book a) Lock terms → Allows (first_book b) Mint terms → CanRecover st a b s 0 eleven Burnt Assigned
   -- commit-ready is lost and the origin stops: it finds it in the answer, and the session commits

@@ -15,7 +15,7 @@ use Rattle.satp_base.specs.declared.message.Part.{Part}
 use Rattle.satp_base.specs.declared.message.Role.{Role}
 use Rattle.satp_base.specs.declared.session.SessionId.{SessionId}
 use Rattle.satp_world.specs.Sessions.{tale_of}
-use Rattle.satp_world.specs.Worlds.{Delivered, Gateway, Reached, Sayable, Setting, Text, World, WorldMoves, begun, chain_in, maker_side, most_sessions, name_at, opposite, session_in, side_at}
+use Rattle.satp_world.specs.Worlds.{Among, Delivered, Gateway, Reached, Sayable, Setting, Text, World, WorldMoves, begun, chain_in, maker_side, message_from, most_sessions, name_at, opposite, records_of, session_in, side_at}
 
 -- what an update carries is at most two texts
 abbrev pub HasFewEntries : Body → Type 0
@@ -28,6 +28,18 @@ pub record IsOneOf (st : Setting) (t : Text) : Type 0 where
   pub text : t ≡ own st.key message
   pub few : HasFewEntries message.body
 
+-- a `recover` of the session was sent to this gateway by the peer whose session it is
+pub record WasAsked (st : Setting) (w : World) (g : Gateway) (s : SessionId) : Type 0 where
+  pub of_the_peer : s.gateway ≡ name_at st (opposite g)
+  pub message : Message
+  pub formed : IsMessage message
+  pub of_it : message.session ≡ s
+  pub to_it : message.receiver ≡ name_at st g
+  pub length : ℕ
+  pub last : Link
+  pub recover : message.body ≡ body.Recover length last
+  pub said : Among (own st.key message) w.bag
+
 -- What no move of a world does.
 pub record IsLimited (st : Setting) (w : World) : Type 0 where
   -- nothing is burnt before commit-ready stands in the recipient's chain
@@ -38,6 +50,8 @@ pub record IsLimited (st : Setting) (w : World) : Type 0 where
       → slice_get (chain_in s (side_at w (maker_side g (role_at (n + 1)))).records) n ≢ Some t → ¬ Delivered st w.bag t
   -- no update of three messages is said
   pub no_long_update : (g : Gateway) (t : Text) → Sayable st g (side_at w g).records w.bag t → IsOneOf st t
+  -- nothing is said of a session that the records don't name, unless the peer asked
+  pub no_idle_answer : (g : Gateway) (s : SessionId) → records_of s (side_at w g).records ≡ [] → Sayable st g (side_at w g).records w.bag (own st.key (message_from st g s (body.Update 0 []))) → WasAsked st w g s
   -- a gateway begins at most 2,048 sessions in each role
   pub no_more_sessions : (g : Gateway) (role : Role) → begun role (side_at w g).records ≤ most_sessions
 

@@ -1,6 +1,6 @@
 -- Two gateways with records and ledgers, a bag of texts between them that only grows, and the moves of each.
 use Rattle.std.specs.Prelude.{◌≡◌, ◌≢◌, ◌⊎◌, ℕ, ◌+◌, ◌-◌, ◌<◌, ◌≤◌, Bool, true, false, List, [], ◌∷◌, ◌++◌, map, filter, length, drop, slice_get, Option, Some, IsTrue}
-use Rattle.std.specs.List.{flat_map}
+use Rattle.std.specs.List.{flat_map, list_any}
 use Rattle.std.specs.FinMap as map_of
 use Rattle.std.specs.Ordering.{eq_by_cmp}
 use Rattle.satp_base.specs.Keys.{session_cmp}
@@ -11,13 +11,14 @@ use Rattle.satp_base.specs.Canonical.{part_kind}
 use Rattle.satp_base.specs.Forms.{IsMessage, IsPart}
 use Rattle.satp_base.specs.Signatures.{own}
 use Rattle.satp_base.specs.Chains.{ChainOf, head_of, message_at, next_text, role_at}
-use Rattle.satp_base.specs.Tales.{is_whole}
+use Rattle.satp_base.specs.Tales.{is_whole, kind_eq}
 use Rattle.satp_base.specs.Views.{view_of}
-use Rattle.satp_base.specs.Roles.{After, RoleRule, next_of}
+use Rattle.satp_base.specs.Roles.{After, RoleRule, either, next_of}
 use Rattle.satp_base.specs.declared.name.Name.{Name}
 use Rattle.satp_base.specs.declared.session.SessionId.{SessionId}
 use Rattle.satp_base.specs.declared.message.Role.{Role}
 use Rattle.satp_base.specs.declared.message.Role.TheVariants.{Origin, Recipient}
+use Rattle.satp_base.specs.declared.message.Kind.TheVariants.{CommitReady}
 use Rattle.satp_base.specs.declared.message.Terms.{Terms}
 use Rattle.satp_base.specs.declared.message.Link.{Link}
 use Rattle.satp_base.specs.declared.message.Part.{Part}
@@ -30,11 +31,12 @@ use Rattle.satp_base.specs.declared.ledger.LedgerOp.{LedgerOp}
 use Rattle.satp_base.specs.declared.ledger.LedgerOp.TheVariants.{Lock, Mint}
 use Rattle.satp_base.specs.declared.ledger.Answer.{Answer}
 use Rattle.satp_base.specs.declared.record.Cause.TheVariants.{LockRefused, UnknownAsset, MintCapped, LedgerTaken}
-use Rattle.satp_base.specs.declared.record.Way.TheVariants.{Back}
+use Rattle.satp_base.specs.declared.record.Way.TheVariants.{Commit, Back}
 use Rattle.satp_base.specs.declared.record.Rec.{Rec}
 use Rattle.satp_base.specs.declared.record.Rec.TheVariants.{Began, Took, Made, Did, Chose, Rescue}
 use Rattle.satp_base.specs.declared.record.Next.TheVariants.{Act}
 use Rattle.satp_base.specs.declared.view.View.{View}
+use Rattle.satp_world.specs.Deal.{Deal, Decision}
 use Rattle.satp_world.specs.Sessions.{GoesOn, IsSafe, IsSettled, IsWhole, Session, SessionStands, deal_of, tale_of}
 
 -- ---- what stands
@@ -244,6 +246,34 @@ session_in w g s = record {
   b_entry = entry_of (side_at w (opposite g)).book.entries s;
 }
 
+-- one of the records passes the test
+abbrev pub holds : (Rec → Bool) → List Stored → Bool
+holds test xs = list_any (λ x. test x.rec) xs
+
+abbrev pub chose_commit : Rec → Bool
+chose_commit (Chose Commit) = true
+chose_commit _ = false
+
+abbrev pub chose_back : Rec → Bool
+chose_back (Chose (Back cause)) = true
+chose_back _ = false
+
+abbrev pub made_ready : Rec → Bool
+made_ready (Made kind) = kind_eq CommitReady kind
+made_ready _ = false
+
+-- where the deal of a session of this gateway's name is, as both ledgers and the records themselves say
+abbrev pub as_deal : World → Gateway → SessionId → Deal
+as_deal w g s = record {
+  a = entry_of (side_at w g).book.entries s;
+  b = entry_of (side_at w (opposite g)).book.entries s;
+  v = elim (holds chose_commit (records_of s (side_at w g).records)) [
+    | true ↦ Decision.Commit
+    | false ↦ elim (either (holds chose_back (records_of s (side_at w g).records)) (holds chose_back (records_of s (side_at w (opposite g)).records))) [ true ↦ Decision.Back | false ↦ Decision.Open ]
+  ];
+  ready = holds made_ready (records_of s (side_at w (opposite g)).records);
+}
+
 -- the deal of the session is as before, or one step of a side further
 abbrev pub DealGoesOn : Session → Session → Type 0
 DealGoesOn s new = (deal_of new ≡ deal_of s) ⊎ ((role : Role) × GoesOn role (deal_of s) (deal_of new))
@@ -302,6 +332,8 @@ pub record IsSafeWorld (st : Setting) (w : World) : Type 0 where
   pub safe : (g : Gateway) (s : SessionId) → s.gateway ≡ name_at st g → IsSafe (session_in w g s)
   -- a session whose two chains are equal and whole is settled
   pub settled : (g : Gateway) (s : SessionId) → s.gateway ≡ name_at st g → chain_in s (side_at w g).records ≡ chain_in s (side_at w (opposite g)).records → IsTrue (is_whole (tale_of (session_in w g s).a)) → IsSettledAt w g s
+  -- the deal that the views say is the one that the records say
+  pub read_off : (g : Gateway) (s : SessionId) → s.gateway ≡ name_at st g → as_deal w g s ≡ deal_of (session_in w g s)
   -- a move is a step of the deal machine, or leaves the deal as it is
   pub goes_on : (g : Gateway) (s : SessionId) → s.gateway ≡ name_at st g → (v : World) → WorldMoves st w v → DealGoesOn (session_in w g s) (session_in v g s)
 

@@ -29,14 +29,15 @@ pub fn law_safety()
 {}
 
 /// Each ending of a session is reached by moves from the beginning, wherever the amounts of both ledgers allow it: a
-/// committed transfer, one that the origin aborts, one whose lock is refused, one whose mint is refused, one that the
-/// recipient aborts, and one that a round of recovery ends after a lost message and a stop.
+/// committed transfer, one that either side aborts, one whose lock or mint is refused, and those that a round of
+/// recovery ends after a lost message and a stop: the proposal, a message of the origin, or one of the recipient.
 pub fn law_endings()
     ensures { LawEndings }
 {}
 
 /// What no move does: burn before the recipient is ready, take a text that its maker's chain doesn't hold, say an
-/// update of more than two messages, or begin a session past the bound of each role.
+/// update of more than two messages, answer on an unknown session that the peer didn't ask for, or begin a session past
+/// the bound of each role.
 pub fn law_limits()
     ensures { LawLimits }
 {}

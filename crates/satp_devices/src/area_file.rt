@@ -4,11 +4,14 @@ use crate::folder::sync_folder;
 use std::fs::{File, Files, OpenOptions};
 use std::io::{self, ErrorKind};
 use std::os::fd::AsRawFd;
-use std::os::unix::fs::FileExt;
+use std::os::unix::fs::{FileExt, OpenOptionsExt};
 use std::path::{Path, PathBuf};
 
 /// The last descriptor of a standard stream.
 const LAST_STANDARD: i32 = 2;
+
+/// The permissions of a file that is made: it may hold a key.
+pub const OWNER_ALONE: u32 = 0o600;
 
 /// The file of one area. A file that is missing reads as empty.
 #[derive(Drop)]
@@ -115,7 +118,11 @@ impl AreaFile {
     /// Makes the file.
     fn make<R: Files<File = File>>(&mut self, files: &R) -> io::Result<()> {
         let mut options = OpenOptions::new();
-        options.read(true).write(true).create(true);
+        options
+            .read(true)
+            .write(true)
+            .create(true)
+            .mode(OWNER_ALONE);
         self.is_new = true;
         self.file = Some(open_apart(files, &options, self.path.as_path())?);
         Ok(())

@@ -1,8 +1,9 @@
-use crate::area_file::{AreaFile, open_apart};
+use crate::area_file::{AreaFile, OWNER_ALONE, open_apart};
 use satp_base::Area;
 use std::alloc::Global;
 use std::fs::{self, File, Files, OpenOptions};
 use std::io::{self, ErrorKind};
+use std::os::unix::fs::OpenOptionsExt;
 use std::path::{Path, PathBuf};
 
 const LOCK: &str = "lock";
@@ -111,7 +112,11 @@ pub fn sync_folder<R: Files<File = File>>(files: &R, path: Path<'_>) -> io::Resu
 /// Opens the lock file, which is made where it is missing, and takes its lock without waiting for it.
 fn take_lock<R: Files<File = File>>(files: &R, path: Path<'_>) -> io::Result<File> {
     let mut options = OpenOptions::new();
-    options.read(true).write(true).create(true);
+    options
+        .read(true)
+        .write(true)
+        .create(true)
+        .mode(OWNER_ALONE);
     let lock = open_apart(files, &options, path)?;
     lock.try_lock()?;
     Ok(lock)

@@ -1,0 +1,5 @@
+pub mod Shapes
+pub mod Formats
+pub mod Reading
+pub mod Views
+pub mod Laws

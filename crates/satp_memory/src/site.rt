@@ -17,7 +17,6 @@ use std::alloc::Global;
 /// A call fails where [`MemSite::fail`] named it or a stop was reached, and beside that only where it found no memory, where it uses a ledger that wasn't founded, and where it founds one of another kind.
 #[derive(Drop)]
 pub struct MemSite<C: LedgerCore> {
-    kind: LedgerKind,
     disk: MemDisk,
     core: Option<C>,
     ghost one: { entries_or (option_map C.book core) (entries_of disk) ≡ entries_of disk } by { Coded-set coded_entries (entries_or (option_map C.book core) (entries_of disk)) (entries_of disk) },
@@ -37,7 +36,6 @@ impl<C: LedgerCore> MemSite<C> {
         ensures { IfOk result (λ site. IsFresh site.disk × (site.disk.calls ≡ fresh) × (site.core ≡ None)) }
     {
         Ok(MemSite {
-            kind: C::KIND,
             disk: MemDisk::new(alloc)?,
             core: None,
         })
@@ -113,7 +111,6 @@ impl<C: LedgerCore> MemSite<C> {
         ensures err { OnErr result ((told_of self.new.disk ≡ told_of self.old.disk) × (self.new.core ≡ None)) }
         ensures stop { self.new.disk.stop ≡ self.old.disk.stop }
         ensures calls { self.new.disk.calls ≡ self.old.disk.calls }
-        ensures kind { self.new.kind ≡ self.old.kind }
     {
         match self.disk.find_room() {
             Ok(()) => {}
@@ -166,7 +163,6 @@ impl<C: LedgerCore> Disk for MemSite<C> {
         ensures cause { HasCause self.old.disk.calls.faults self.new.disk.calls.faults result }
         ensures ended { EndsOrWants self.old.disk self.new.disk result }
         ensures stop { self.new.disk.stop ≡ self.old.disk.stop }
-        ensures kind { self.new.kind ≡ self.old.kind }
         ensures core { self.new.core ≡ self.old.core }
     {
         self.disk.enter(dir)
@@ -178,7 +174,6 @@ impl<C: LedgerCore> Disk for MemSite<C> {
         ensures cause { HasCause self.old.disk.calls.faults self.new.disk.calls.faults result }
         ensures ended { Ends self.old.disk self.new.disk result }
         ensures stop { self.new.disk.stop ≡ self.old.disk.stop }
-        ensures kind { self.new.kind ≡ self.old.kind }
         ensures core { self.new.core ≡ self.old.core }
     {
         self.disk.length(area)
@@ -191,7 +186,6 @@ impl<C: LedgerCore> Disk for MemSite<C> {
         ensures cause { HasCause self.old.disk.calls.faults self.new.disk.calls.faults result }
         ensures ended { Ends self.old.disk self.new.disk result }
         ensures stop { self.new.disk.stop ≡ self.old.disk.stop }
-        ensures kind { self.new.kind ≡ self.old.kind }
         ensures core { self.new.core ≡ self.old.core }
     {
         self.disk.read(area, at, into)
@@ -206,7 +200,6 @@ impl<C: LedgerCore> Disk for MemSite<C> {
         ensures ended { EndsOrWants self.old.disk self.new.disk result }
         ensures adds { Adds (Wrote area at bytes.now) (Wrote area at bytes.now ∷ []) self.old.disk self.new.disk result }
         ensures stop { self.new.disk.stop ≡ self.old.disk.stop }
-        ensures kind { self.new.kind ≡ self.old.kind }
         ensures core { self.new.core ≡ self.old.core }
     {
         self.disk.write(area, at, bytes)
@@ -220,7 +213,6 @@ impl<C: LedgerCore> Disk for MemSite<C> {
         ensures ended { EndsOrWants self.old.disk self.new.disk result }
         ensures adds { Adds (Cut area size) (Cut area size ∷ []) self.old.disk self.new.disk result }
         ensures stop { self.new.disk.stop ≡ self.old.disk.stop }
-        ensures kind { self.new.kind ≡ self.old.kind }
         ensures core { self.new.core ≡ self.old.core }
     {
         self.disk.cut(area, size)
@@ -233,7 +225,6 @@ impl<C: LedgerCore> Disk for MemSite<C> {
         ensures ended { EndsOrWants self.old.disk self.new.disk result }
         ensures adds { Adds (Synced area) [] self.old.disk self.new.disk result }
         ensures stop { self.new.disk.stop ≡ self.old.disk.stop }
-        ensures kind { self.new.kind ≡ self.old.kind }
         ensures core { self.new.core ≡ self.old.core }
     {
         self.disk.sync(area)
@@ -258,7 +249,6 @@ impl<C: LedgerCore> Ledger for MemSite<C> {
         ensures ended { ActEnds (is_refused (is_stopped self.old.disk) self.old.disk.calls) (is_some (option_map C.book self.old.core)) self.old.disk.calls self.new.disk.calls result }
         ensures failed { OnErr result ((option_map C.book self.new.core ≡ option_map C.book self.old.core) × (self.new.disk.events.items ≡ self.old.disk.events.items)) }
         ensures stop { self.new.disk.stop ≡ self.old.disk.stop }
-        ensures kind { self.new.kind ≡ self.old.kind }
     {
         let call = LedgerCall::Act {
             op,
@@ -292,7 +282,6 @@ impl<C: LedgerCore> Ledger for MemSite<C> {
         ensures cause { HasCause self.old.disk.calls.faults self.new.disk.calls.faults result }
         ensures ended { LedgerEnds (is_refused (is_stopped self.old.disk) self.old.disk.calls) (is_some (option_map C.book self.old.core)) self.old.disk.calls self.new.disk.calls result }
         ensures stop { self.new.disk.stop ≡ self.old.disk.stop }
-        ensures kind { self.new.kind ≡ self.old.kind }
         ensures core { self.new.core ≡ self.old.core }
     {
         match self.disk.ask(LedgerCall::Look { session }) {
@@ -325,16 +314,15 @@ impl<C: LedgerCore> Site for MemSite<C> {
             × Asks (Found kind genesis.now) events result (Some (told_of self.old.disk)) (Some (told_of self.new.disk)) }
         ensures ledger { FoundsBook genesis.now result (Some (told_of self.old.disk)) (option_map C.book self.new.core) }
         ensures cause { HasCause self.old.disk.calls.faults self.new.disk.calls.faults result }
-        ensures ended { LedgerEnds (is_refused (is_stopped self.old.disk) self.old.disk.calls) (same_kind kind self.old.kind) self.old.disk.calls self.new.disk.calls result }
+        ensures ended { LedgerEnds (is_refused (is_stopped self.old.disk) self.old.disk.calls) (same_kind kind C.KIND) self.old.disk.calls self.new.disk.calls result }
         ensures stop { self.new.disk.stop ≡ self.old.disk.stop }
-        ensures kind { self.new.kind ≡ self.old.kind }
     {
         self.core = None;
         match self.disk.ask_founding(kind, genesis) {
             Ok(()) => {}
             Err(_) => return Err(SiteFault),
         }
-        if !same_kind(kind, self.kind) {
+        if !same_kind(kind, C::KIND) {
             self.disk.calls.fault();
             return Err(SiteFault);
         }
@@ -352,7 +340,6 @@ impl<C: LedgerCore> Site for MemSite<C> {
         ensures cause { HasCause self.old.disk.calls.faults self.new.disk.calls.faults result }
         ensures ended { LedgerEnds (is_refused (is_stopped self.old.disk) self.old.disk.calls) (is_some (option_map C.book self.old.core)) self.old.disk.calls self.new.disk.calls result }
         ensures stop { self.new.disk.stop ≡ self.old.disk.stop }
-        ensures kind { self.new.kind ≡ self.old.kind }
         ensures core { self.new.core ≡ self.old.core }
     {
         match self.disk.ask(LedgerCall::Raise) {

@@ -253,6 +253,10 @@ impl LedgerCore for Accounts {
 
     const KIND: LedgerKind = LedgerKind::Accounts;
 
+    ghost use Rattle.satp_base.specs.declared.ledger.LedgerKind.TheVariants as kind;
+
+    ghost KIND = { kind.Accounts };
+
     fn begin(alloc: Global, genesis: &Genesis) -> Result<Accounts, Memory> {
         let assets = copy_assets(alloc, genesis)?;
         let holds = copy_holds(alloc, genesis)?;

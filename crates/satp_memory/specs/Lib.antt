@@ -4,3 +4,5 @@ pub mod Areas
 pub mod Disk
 pub mod Plain
 pub mod Steps
+pub mod Stopping
+pub mod Picks

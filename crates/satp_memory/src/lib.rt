@@ -5,8 +5,10 @@ mod areas;
 mod calls;
 mod copy;
 mod disk;
+mod pick;
 mod sink;
 mod source;
+mod stop;
 #[cfg(test)]
 mod tests;
 

@@ -1,8 +1,6 @@
 -- What is answered of a payload that was read.
-use Rattle.std.proofs.Common.{◌≡◌, ℕ, ◌⊎◌, List, Option, Some, Result, Ok, Err, MatchResult, refl, sym, ap, subst, ◌∙◌, inl, inr}
+use Rattle.std.proofs.Common.{◌≡◌, ℕ, List, Result, Ok, Err, MatchResult, sym, ap, subst, ◌∙◌, inl, inr}
 use Rattle.std.specs.Prelude.{IfOk, IfSome}
-use Rattle.satp_base.specs.declared.session.SessionId.{SessionId}
-use Rattle.satp_base.specs.declared.record.Rec.{Rec}
 use Rattle.satp_records.specs.Formats.{texts, payload_of, IsFormed, IsFormedRec, IsRefused}
 use Rattle.satp_records.specs.Reading.{whole}
 use Rattle.satp_records.specs.Views.{UnlessMemory, session_rec}
@@ -11,7 +9,7 @@ use Rattle.satp_records.specs.declared.fault.RecordFault.TheVariants as fault
 use Rattle.satp_records.specs.declared.stored.Stored.{Stored}
 use Rattle.satp_records.specs.declared.stored.Stored.TheVariants as stored
 use Rattle.satp_records.proofs.Fields.{IsBytes}
-use Rattle.satp_records.proofs.Lists.{IsPayload, read_again, read_payload, read_fault, fault_again, ok_is, err_is}
+use Rattle.satp_records.proofs.Lists.{IsPayload, read_again, read_payload, fault_again, ok_is, err_is}
 use Rattle.satp_records.proofs.Records.{record_payload, same}
 
 -- the record that was found is owned, or no memory was found

@@ -1,13 +1,13 @@
 -- Reading one field: either it was spelled there, or it has a fault. Where `rest` begins with a field that was spelled, the field
 -- is what was spelled, and it has no fault.
-use Rattle.std.proofs.Common.{◌≡◌, ℕ, ◌+◌, ◌<◌, ◌≤◌, ◌^◌, ◌&&◌, ◌==◌, ◌⊎◌, Bool, true, false, cond, nat_lt, nat_le, List, [], ◌∷◌, ◌++◌, length, get_or, take, drop, Result, Ok, Err, refl, sym, ap, subst, ◌∙◌, append_assoc, arith, inl, inr}
-use Rattle.std.specs.Int.{w16, from_be_bytes, to_be_bytes}
+use Rattle.std.proofs.Common.{◌≡◌, ℕ, ◌+◌, ◌<◌, ◌≤◌, ◌^◌, ◌&&◌, ◌==◌, ◌⊎◌, Bool, true, false, nat_lt, nat_le, List, [], ◌∷◌, ◌++◌, length, get_or, take, drop, Ok, Err, refl, sym, ap, ◌∙◌, append_assoc, arith, inl, inr}
+use Rattle.std.specs.Int.{w16, from_be_bytes}
 use Rattle.std.proofs.lemmas.Bool.{and_parts, eqb-true, leb-true, leb-false, ltb-true, ltb-false, cases_lt}
 use Rattle.std.proofs.lemmas.List.{take-append-drop, length-append, length-take, length-drop, get_or-drop, get_or-take, get_or_past}
 use Rattle.std.proofs.lemmas.Nat.{be_bytes_2, from_be_bytes-to_be_bytes_2}
 use Rattle.std.proofs.Math.Seq.{drop-drop, take-append_seam, drop-append_seam}
 use Rattle.satp_records.specs.Shapes.{Count, fixed, one, two, Shape, width, count_bytes, spell, Fits, said, in_range, IsShort, IsOutOfForm, IsFieldFault}
-use Rattle.satp_records.specs.Reading.{◌>>=◌, bytes_at, part_at, field_at}
+use Rattle.satp_records.specs.Reading.{part_at, field_at}
 use Rattle.satp_records.specs.declared.fault.RecordFault.{RecordFault}
 use Rattle.satp_records.specs.declared.fault.RecordFault.TheVariants as fault
 

@@ -8,7 +8,7 @@ use Rattle.satp_base.specs.declared.message.Terms.{Terms}
 use Rattle.satp_base.specs.declared.record.Rec.TheVariants as rec
 use Rattle.satp_base.specs.declared.session.SessionId.{SessionId}
 use Rattle.satp_records.specs.Shapes.{Shape, spell}
-use Rattle.satp_records.specs.Formats.{name_shape, amount_shape, text_shape, session, role, terms, text, session_texts, terms_texts, spell_all, role_byte, operation_byte, payload_of}
+use Rattle.satp_records.specs.Formats.{name_shape, text_shape, session, role, terms, text, session_texts, terms_texts, spell_all, role_byte, operation_byte, payload_of}
 use Rattle.satp_records.specs.declared.stored.Stored.TheVariants as stored
 
 -- a session, and fields behind it

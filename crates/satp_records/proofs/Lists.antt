@@ -1,15 +1,15 @@
 -- Reading several fields, and a whole payload: either it was spelled so, or it has its first fault.
-use Rattle.std.proofs.Common.{◌≡◌, ℕ, zero, suc, ◌+◌, ◌<◌, ◌≤◌, ◌==◌, ◌&&◌, ◌⊎◌, Bool, true, false, cond, nat_lt, List, [], ◌∷◌, ◌++◌, length, take, drop, Option, Some, None, option_map, Result, Ok, Err, refl, sym, ap, subst, ◌∙◌, append_assoc, arith, inl, inr}
+use Rattle.std.proofs.Common.{◌≡◌, ℕ, ◌+◌, ◌<◌, ◌≤◌, ◌==◌, ◌⊎◌, Bool, true, false, cond, nat_lt, List, [], ◌∷◌, ◌++◌, length, drop, Option, Some, None, option_map, Result, Ok, Err, refl, sym, ap, subst, ◌∙◌, append_assoc, arith, inl, inr}
 use Rattle.std.specs.Prelude.{find, is_some}
 use Rattle.std.specs.List.{list_all}
 use Rattle.std.proofs.lemmas.Bool.{and_parts, ltb-true, ltb-false}
 use Rattle.std.proofs.lemmas.List.{append-nil, length-append, length-drop, nil_from_length}
-use Rattle.satp_records.specs.Shapes.{Shape, spell, Fits, IsFieldFault}
+use Rattle.satp_records.specs.Shapes.{Shape, spell, Fits}
 use Rattle.satp_records.specs.Formats.{Format, format_of, formats, joined, shapes_of, spell_all, IsFault, IsFaultBehind, IsRefused}
-use Rattle.satp_records.specs.Reading.{◌>>=◌, field_at, fields_at, parts_at, behind, record_at, whole}
+use Rattle.satp_records.specs.Reading.{◌>>=◌, field_at, fields_at, parts_at, behind, whole}
 use Rattle.satp_records.specs.declared.fault.RecordFault.{RecordFault}
 use Rattle.satp_records.specs.declared.fault.RecordFault.TheVariants as fault
-use Rattle.satp_records.proofs.Fields.{IsBytes, is_sound, IsSound, Took, Failed, Outcome, outcome, Says, says, no_fault, one_field, one_fault}
+use Rattle.satp_records.proofs.Fields.{IsBytes, is_sound, IsSound, Took, Outcome, outcome, says, no_fault, one_field, one_fault}
 
 -- the bytes may stand in fields of these shapes
 abbrev pub FitsAll : List Shape → List (List ℕ) → List (List ℕ) → Type 0

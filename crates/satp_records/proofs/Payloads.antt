@@ -1,6 +1,6 @@
 -- The laws on payloads.
-use Rattle.std.proofs.Common.{◌≡◌, ℕ, List, ap, sym, subst, arith}
-use Rattle.satp_records.specs.Formats.{texts, payload_of, IsFormed}
+use Rattle.std.proofs.Common.{ℕ, List, ap, sym, subst, arith}
+use Rattle.satp_records.specs.Formats.{texts, payload_of}
 use Rattle.satp_records.specs.Laws.{PayloadsFit, OneRecord}
 use Rattle.satp_records.proofs.Lengths.{payload_short}
 use Rattle.satp_records.proofs.Lists.{IsPayload, one_payload}

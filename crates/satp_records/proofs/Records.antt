@@ -1,9 +1,9 @@
 -- The fields of a record that can be stored fit its format, and two such records with the same fields are one.
-use Rattle.std.proofs.Common.{◌≡◌, ℕ, ◌+◌, ◌<◌, ◌≤◌, ◌^◌, ◌&&◌, ◌==◌, Bool, true, false, not, nat_le, List, [], ◌∷◌, ◌++◌, length, get_or, Option, Some, None, IsTrue, refl, sym, ap, subst, ◌∙◌, arith, lit<}
+use Rattle.std.proofs.Common.{◌≡◌, ℕ, ◌<◌, ◌≤◌, ◌^◌, Bool, true, false, not, List, [], ◌∷◌, ◌++◌, length, get_or, IsTrue, refl, sym, ap, ◌∙◌, arith}
 use Rattle.std.specs.Prelude.{is_some}
 use Rattle.std.specs.Int.{w32, w64, to_be_bytes, from_be_bytes}
 use Rattle.std.specs.Str.{bytes_eq}
-use Rattle.std.proofs.lemmas.Bool.{and_parts, and_from, le-leb, leb-true}
+use Rattle.std.proofs.lemmas.Bool.{and_from, le-leb, leb-true}
 use Rattle.std.proofs.lemmas.Slice.Eq.{bytes_eq-Decides}
 use Rattle.std.proofs.lemmas.Nat.{from_be_bytes-to_be_bytes_4, from_be_bytes-to_be_bytes_8}
 use Rattle.satp_base.specs.Names.{is_name_byte, is_address_byte}
@@ -27,14 +27,12 @@ use Rattle.satp_base.specs.declared.record.Rec.{Rec}
 use Rattle.satp_base.specs.declared.record.Rec.TheVariants as rec
 use Rattle.satp_base.specs.declared.record.Way.{Way}
 use Rattle.satp_base.specs.declared.record.Way.TheVariants.{Commit, Back}
-use Rattle.satp_base.specs.declared.record.Cause.{Cause}
 use Rattle.satp_base.specs.declared.record.Cause.TheVariants as cause
 use Rattle.satp_base.proofs.Exact.{name_holds, address_holds, same_text, same_address_text}
 use Rattle.satp_base.proofs.Forms.{form_parts}
 use Rattle.satp_base.proofs.Equalities.{same_terms}
-use Rattle.satp_records.specs.Shapes.{Shape, Fits}
-use Rattle.satp_records.specs.Formats.{format_of, shapes_of, name_shape, peer_shape, address_shape, key_shape, text_shape, number_shape, amount_shape, code_shape, session, terms, role_byte, kind_byte, operation_byte, way_byte, ledger_byte, session_texts, terms_texts, texts, payload_of, is_other, IsFormed, IsFormedRec, IsMessageText, is_answer}
-use Rattle.satp_records.specs.declared.stored.Setup.{Setup}
+use Rattle.satp_records.specs.Shapes.{Fits}
+use Rattle.satp_records.specs.Formats.{format_of, shapes_of, name_shape, peer_shape, address_shape, key_shape, text_shape, number_shape, amount_shape, code_shape, role_byte, kind_byte, operation_byte, way_byte, ledger_byte, session_texts, terms_texts, texts, payload_of, IsFormed, IsFormedRec, IsMessageText, is_answer}
 use Rattle.satp_records.specs.declared.stored.Stored.{Stored}
 use Rattle.satp_records.specs.declared.stored.Stored.TheVariants as stored
 use Rattle.satp_records.proofs.Lists.{FitsAll, IsPayload}

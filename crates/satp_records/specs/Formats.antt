@@ -1,6 +1,6 @@
 -- The format of records: a first byte, and the fields behind it. A new kind of record is one more row of `formats`, and one
 -- more case of `texts`.
-use Rattle.std.specs.Prelude.{◌≡◌, ◌≢◌, ℕ, ◌+◌, ◌<◌, ◌≤◌, ◌&&◌, ◌==◌, ◌⊎◌, Bool, true, not, nat_le, List, [], ◌∷◌, ◌++◌, length, slice_index, slice_get, Option, Some, None, option_map, IsTrue, find}
+use Rattle.std.specs.Prelude.{◌≡◌, ◌≢◌, ℕ, ◌+◌, ◌<◌, ◌≤◌, ◌&&◌, ◌==◌, ◌⊎◌, Bool, true, not, nat_le, List, [], ◌∷◌, ◌++◌, length, slice_index, Option, Some, None, option_map, IsTrue, find}
 use Rattle.std.specs.Int.{w32, w64, to_be_bytes, from_be_bytes}
 use Rattle.std.specs.Str.{bytes_eq}
 use Rattle.satp_base.specs.Names.{is_name, is_address}
@@ -15,14 +15,13 @@ use Rattle.satp_base.specs.declared.message.Kind.TheVariants.{TransferProposal, 
 use Rattle.satp_base.specs.declared.message.Role.{Role}
 use Rattle.satp_base.specs.declared.message.Role.TheVariants.{Origin, Recipient}
 use Rattle.satp_base.specs.declared.message.Terms.{Terms}
-use Rattle.satp_base.specs.declared.record.Cause.{Cause}
 use Rattle.satp_base.specs.declared.record.Cause.TheVariants as cause
 use Rattle.satp_base.specs.declared.record.Rec.{Rec}
 use Rattle.satp_base.specs.declared.record.Rec.TheVariants as rec
 use Rattle.satp_base.specs.declared.record.Way.{Way}
 use Rattle.satp_base.specs.declared.record.Way.TheVariants.{Commit, Back}
 use Rattle.satp_base.specs.declared.session.SessionId.{SessionId}
-use Rattle.satp_records.specs.Shapes.{Count, fixed, one, two, Shape, spell, Fits, IsFieldFault}
+use Rattle.satp_records.specs.Shapes.{fixed, one, two, Shape, spell, Fits, IsFieldFault}
 use Rattle.satp_records.specs.declared.fault.RecordFault.{RecordFault}
 use Rattle.satp_records.specs.declared.fault.RecordFault.TheVariants as fault
 use Rattle.satp_records.specs.declared.stored.Stored.{Stored}

@@ -1,5 +1,5 @@
 -- Reading fields from the front, up to the first fault: what the readers of the code give. The payload is read from a place on.
-use Rattle.std.specs.Prelude.{◌≡◌, ℕ, ◌+◌, ◌≤◌, ◌&&◌, ◌==◌, Bool, List, [], ◌∷◌, ◌++◌, length, take, drop, nat_lt, nat_le, Option, Some, None, Result, Ok, Err, if◌then◌else◌}
+use Rattle.std.specs.Prelude.{ℕ, ◌+◌, ◌&&◌, List, [], ◌∷◌, ◌++◌, length, take, drop, nat_lt, nat_le, Option, Some, None, Result, Ok, Err, if◌then◌else◌}
 use Rattle.satp_records.specs.Shapes.{Count, Shape, width, said}
 use Rattle.satp_records.specs.Formats.{Format, format_of}
 use Rattle.satp_records.specs.declared.fault.RecordFault.{RecordFault}

@@ -1,6 +1,5 @@
 use Rattle.std.proofs.Common.{Err, arith, ap, inr}
 use Rattle.satp_records.specs.Views.{view}
-use Rattle.satp_records.proofs.Fields.{IsBytes}
 use Rattle.satp_records.proofs.Lists.{read_fault}
 use Rattle.satp_records.proofs.Decoding.{stored_found, stored_only, nothing_refused, nothing_found, first_fault}
 use Rattle.satp_records.proofs.reading.decode.Goals as goal

@@ -2,10 +2,13 @@ use Rattle.std.proofs.Common.{refl, inl, inr}
 use Rattle.std.proofs.lemmas.List.{append-nil}
 use Rattle.satp_memory.proofs.disk.MemDiskDisk.enter.Goals as goal
 
-pub returns-then-due-clause-err : goal.returns-then-due-clause-err
-returns-then-due-clause-err c =
-    inl (rw (c.stage_enter.ensures.same.start, c.stage_enter.ensures.same.events, c.in-Ok.ensures.dirs, c.stage_enter.ensures.calls, c.begin-due.ensures.told, append-nil) refl)
+pub returns-then-stopped-clause-err : goal.returns-then-stopped-clause-err
+returns-then-stopped-clause-err c = inr (rw (c.begin-refused.ensures.told, append-nil) refl)
+
+pub returns-then-refused-clause-err : goal.returns-then-refused-clause-err
+returns-then-refused-clause-err c =
+    inl (rw (c.stage_enter.ensures.start, c.stage_enter.ensures.events, c.in-Ok.ensures.dirs, c.stage_enter.ensures.calls, c.begin-refused.ensures.told, append-nil) refl)
 
 pub returns-in-Err-clause-err : goal.returns-in-Err-clause-err
 returns-in-Err-clause-err c =
-    inr (rw (c.stage_enter.ensures.same.start, c.stage_enter.ensures.same.events, c.in-Err.ensures.dirs, c.want.ensures.counted, c.stage_enter.ensures.calls, c.begin-due.ensures.told, append-nil) refl)
+    inr (rw (c.stage_enter.ensures.start, c.stage_enter.ensures.events, c.in-Err.ensures.dirs, c.want.ensures.counted, c.stage_enter.ensures.calls, c.begin-refused.ensures.told, append-nil) refl)

@@ -1,0 +1,118 @@
+-- What a set-up answers, and what it leaves.
+use Rattle.std.specs.Prelude.{◌≡◌, ◌≢◌, ◌⊎◌, ℕ, ◌+◌, List, [], ◌∷◌, ◌++◌, length, Option, Some, None, IfSome, OnSome, option_map, Result, Ok, Err}
+use Rattle.satp_base.specs.Acts.{founded}
+use Rattle.satp_base.specs.Calls.{Told, asked, made, FailsAmong}
+use Rattle.satp_base.specs.Format.{Damage, Stands, records}
+use Rattle.satp_base.specs.Founding.{Founding}
+use Rattle.satp_base.specs.Laws.{RestsAt}
+use Rattle.satp_base.specs.Money.{Book}
+use Rattle.satp_base.specs.Segments.{append_events, open_events}
+use Rattle.satp_base.specs.Trail.{seen}
+use Rattle.satp_base.specs.declared.area.Area.TheVariants.{JournalA}
+use Rattle.satp_base.specs.declared.area.Event.{Event}
+use Rattle.satp_base.specs.declared.area.Event.TheVariants.{Founded}
+use Rattle.satp_base.specs.declared.ledger.LedgerCall.TheVariants.{Found}
+use Rattle.satp_base.specs.declared.ledger.LedgerKind.{LedgerKind}
+use Rattle.satp_journal.specs.Opening.{IsRead, OpenAnswers, mend_calls}
+use Rattle.satp_journal.specs.declared.fault.JournalFault.{JournalFault}
+use Rattle.satp_journal.specs.declared.fault.JournalFault.TheVariants as journal
+use Rattle.satp_records.specs.Formats.{payload_of}
+use Rattle.satp_records.specs.declared.stored.Setup.{Setup}
+use Rattle.satp_records.specs.declared.stored.Stored.TheVariants as stored
+use Rattle.satp_gateway.specs.declared.fault.SetUpFault.{SetUpFault}
+use Rattle.satp_gateway.specs.declared.fault.SetUpFault.TheVariants.{Already, Damaged, Site, Memory}
+
+-- what a site tells of its calls and of its ledger
+pub record Tells : Type 0 where
+  pub told : Option Told
+  pub book : Option Book
+
+abbrev pub tells : Option Told → Option Book → Tells
+tells told book = record { told = told; book = book }
+
+-- what is set up: the payload of the journal's first record, and what the ledger is founded with
+pub record Plan : Type 0 where
+  pub payload : List ℕ
+  pub kind : LedgerKind
+  pub genesis : Founding
+
+abbrev pub plan_of : List ℕ → LedgerKind → Founding → Plan
+plan_of payload kind genesis = record { payload = payload; kind = kind; genesis = genesis }
+
+abbrev pub plan : Setup → LedgerKind → Founding → Plan
+plan setup kind genesis = plan_of (payload_of (stored.Setup setup)) kind genesis
+
+-- ---- the journal
+
+-- the journal was opened, and stands for these payloads
+abbrev pub Opens : List (List ℕ) → Option Told → Option Told → Type 0
+Opens payloads old new =
+    (image : List ℕ) × IsRead JournalA old image × Stands image payloads
+    × (new ≡ option_map (made (3 + mend_calls image (length (records payloads))) (open_events JournalA image (length (records payloads)))) old)
+
+-- the journal was not opened
+abbrev pub FailsToOpen : JournalFault → Option Told → Option Told → Type 0
+FailsToOpen fault old new = OpenAnswers JournalA old new (Err fault)
+
+-- ---- the ledger and the record
+
+-- the ledger was founded
+abbrev pub founds : Plan → Told → Told
+founds p t = asked (Found p.kind p.genesis) (Founded ∷ []) t
+
+-- the founding failed: it is told by name, or only counted where no memory was found to note it
+abbrev pub FailsToFound : Plan → Option Told → Option Told → Type 0
+FailsToFound p old new =
+    (events : List Event) × ((events ≡ Founded ∷ []) ⊎ (events ≡ [])) × ((new ≡ option_map (asked (Found p.kind p.genesis) events) old) ⊎ (new ≡ option_map (made 1 events) old))
+
+-- the ledger that is told is the genesis, and a site that tells tells it
+abbrev pub TellsGenesis : Plan → Tells → Type 0
+TellsGenesis p new = OnSome new.told (new.book ≡ Some (founded p.genesis)) × IfSome new.book (λ b. b ≡ founded p.genesis)
+
+abbrev pub setup_events : Plan → List Event
+setup_events p = append_events JournalA 0 p.payload
+
+-- over an open journal without a record: the ledger was founded, and behind it the record was stored
+abbrev pub Establishes : Plan → Option Told → Tells → Type 0
+Establishes p old new = (new.told ≡ option_map (made 4 (setup_events p)) (option_map (founds p) old)) × TellsGenesis p new
+
+-- The founding failed, and nothing is told of the ledger; or the ledger was founded, and a call of the append failed.
+abbrev pub FailsToEstablish : Plan → Option Told → Tells → Type 0
+FailsToEstablish p old new =
+    (FailsToFound p old new.told × (new.book ≡ None))
+    ⊎ (FailsAmong JournalA (setup_events p) (option_map (founds p) old) new.told × TellsGenesis p new)
+
+-- ---- all of it
+
+-- The journal is opened. Where it has no record, memory is taken first; then the ledger is founded, and then the record is stored.
+abbrev pub SetUpAnswers : Plan → Tells → Tells → Result (Unit {0}) SetUpFault → Type 0
+SetUpAnswers p old new (Ok done) = (opened : Option Told) × Opens [] old.told opened × Establishes p opened new
+SetUpAnswers p old new (Err Already) = ((payloads : List (List ℕ)) × (payloads ≢ []) × Opens payloads old.told new.told) × (new.book ≡ old.book)
+SetUpAnswers p old new (Err (Damaged at)) = FailsToOpen (journal.Damaged at) old.told new.told × (new.book ≡ old.book)
+SetUpAnswers p old new (Err Site) =
+    (FailsToOpen journal.Disk old.told new.told × (new.book ≡ old.book))
+    ⊎ ((opened : Option Told) × Opens [] old.told opened × FailsToEstablish p opened new)
+SetUpAnswers p old new (Err Memory) = (FailsToOpen journal.Memory old.told new.told ⊎ Opens [] old.told new.told) × (new.book ≡ old.book)
+
+-- this answer, unless a call failed or no memory was found
+abbrev pub UnlessFailed : Result (Unit {0}) SetUpFault → Result (Unit {0}) SetUpFault → Type 0
+UnlessFailed result answer = (result ≡ answer) ⊎ (result ≡ Err Site) ⊎ (result ≡ Err Memory)
+
+-- The bytes that the area reads decide which answer it is.
+abbrev pub DecidedBy : List ℕ → Result (Unit {0}) SetUpFault → Type 0
+DecidedBy image result =
+    (Stands image [] → UnlessFailed result (Ok tt))
+    × ((payloads : List (List ℕ)) → payloads ≢ [] → Stands image payloads → UnlessFailed result (Err Already))
+    × ((at : ℕ) → Damage image at → UnlessFailed result (Err (Damaged at)))
+
+abbrev pub SetUpDecided : Option Told → Result (Unit {0}) SetUpFault → Type 0
+SetUpDecided old result = IfSome old (λ t. DecidedBy (seen t.trail JournalA) result)
+
+-- Of the calls on a ledger at most one is made: a founding by this plan, and none where the journal has a record.
+abbrev pub FoundsOnce : Plan → Option Told → Option Told → Type 0
+FoundsOnce p old new =
+    IfSome old (λ t. IfSome new (λ u. (u.asks ≡ t.asks) ⊎ (Stands (seen t.trail JournalA) [] × (u.asks ≡ t.asks ++ Found p.kind p.genesis ∷ []))))
+
+-- each image of the journal's area is the record of the set-up alone, at rest
+abbrev pub RestsSetUp : Plan → Option Told → Type 0
+RestsSetUp p new = IfSome new (λ u. RestsAt u.trail JournalA (p.payload ∷ []))

@@ -1,30 +1,26 @@
 -- A ledger's journal, read from its last record.
-use Rattle.std.proofs.Common.{◌≡◌, ◌≢◌, ◌⊎◌, ℕ, zero, suc, ◌+◌, ◌<◌, ◌≤◌, Bool, true, false, List, [], ◌∷◌, ◌++◌, length, take, drop, Option, Some, None, refl, ap, ap₂, subst, sym, ◌∙◌, inl, inr, ⊎_elim, arith, append_assoc, length-append}
-use Rattle.std.specs.Prelude.{map, unwrap_or, slice_get}
-use Rattle.std.proofs.lemmas.List.{append-nil, map-append, length-map, take-append-drop}
+use Rattle.std.proofs.Common.{◌≡◌, ◌≢◌, ℕ, Bool, true, false, List, [], ◌∷◌, ◌++◌, refl, ap, subst, sym, ◌∙◌, ⊎_elim, append_assoc}
+use Rattle.std.specs.Prelude.{map}
+use Rattle.std.proofs.lemmas.List.{append-nil, map-append}
 use Rattle.satp_base.specs.Acts.{founded}
-use Rattle.satp_base.specs.Founding.{Founding, cap_among, counted, equal_names, held_among, most_assets, most_holds}
-use Rattle.satp_base.specs.Genesis.{AddsAsset, AddsHold, AreApart, IsGenesis}
-use Rattle.satp_base.specs.Keys.{same_amount}
-use Rattle.satp_base.specs.LedgerRule.{LedgerRule, operation}
+use Rattle.satp_base.specs.Founding.{Founding}
+use Rattle.satp_base.specs.Genesis.{IsGenesis}
+use Rattle.satp_base.specs.LedgerRule.{LedgerRule}
 use Rattle.satp_base.specs.Money.{Book}
-use Rattle.satp_base.specs.declared.amount.Amount.{Amount}
 use Rattle.satp_base.specs.declared.genesis.Asset.{Asset}
 use Rattle.satp_base.specs.declared.genesis.Hold.{Hold}
 use Rattle.satp_base.specs.declared.ledger.Answer.TheVariants.{Done}
 use Rattle.satp_base.specs.declared.ledger.LedgerKind.{LedgerKind}
 use Rattle.satp_base.specs.declared.ledger.LedgerOp.{LedgerOp}
 use Rattle.satp_base.specs.declared.message.Terms.{Terms}
-use Rattle.satp_base.specs.declared.name.Name.{Name}
 use Rattle.satp_base.specs.declared.session.SessionId.{SessionId}
-use Rattle.satp_base.proofs.GenesisLemmas.{held_push, names_refl, with_asset, with_hold}
 use Rattle.satp_base.proofs.RuleLemmas.{rule-gives}
 use Rattle.satp_records.specs.Formats.{IsFormed, payload_of}
 use Rattle.satp_records.specs.declared.stored.Stored.{Stored}
 use Rattle.satp_records.specs.declared.stored.Stored.TheVariants as stored
-use Rattle.satp_keeper.specs.Books.{Operated, asset_record, hold_record, act_record, ledger_records, ledger_payloads, Runs, IsLedger, Leaves, IsJournal, IsFirstRefused}
+use Rattle.satp_keeper.specs.Books.{Operated, asset_record, hold_record, act_record, ledger_records, ledger_payloads, Runs}
 use Rattle.satp_keeper.specs.Replaying.{Standing, Follows, Reads, begun_by}
-use Rattle.satp_keeper.proofs.Lists.{by_last, no_last, same_last, Last}
+use Rattle.satp_keeper.proofs.Lists.{by_last, same_last, Last}
 use Rattle.satp_keeper.proofs.Prefixes.{asset_before, hold_before}
 
 -- ---- records

@@ -1,10 +1,8 @@
 -- An operation changes an entry exactly where the entry is another one behind it.
-use Rattle.std.proofs.Common.{◌≡◌, ◌≢◌, ◌⊎◌, ℕ, ◌+◌, nat_le, ◌↔◌, IsTrue, not, Bool, true, false, cond, Option, Some, None, refl, ap, subst, sym, ◌∙◌, inl, inr, ⊎_elim}
+use Rattle.std.proofs.Common.{◌≡◌, ◌≢◌, ◌⊎◌, ℕ, ◌+◌, nat_le, ◌↔◌, IsTrue, not, Bool, true, false, cond, Option, Some, None, refl, ap, sym, ◌∙◌, inl, inr}
 use Rattle.std.specs.Option.{option_map_or}
-use Rattle.std.specs.FinMap.{get, get-insert, insert}
+use Rattle.std.specs.FinMap.{get, get-insert}
 use Rattle.std.specs.Cmp.{eq_by_cmp_equiv}
-use Rattle.std.specs.Ordering.{eq_by_cmp}
-use Rattle.satp_base.specs.Keys.{session_cmp}
 use Rattle.satp_base.specs.Ledgers.{Entries}
 use Rattle.satp_base.specs.LedgerRule.{LedgerRule, Operation, entry_of, leads, lock_on, mint_on, moved, moved_entries, operation, operation_on, result_of, terms_of}
 use Rattle.satp_base.specs.Money.{Book, cap_of, free_of, total_of}

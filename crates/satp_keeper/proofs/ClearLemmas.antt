@@ -1,13 +1,16 @@
 -- An area that is cut to nothing, and opened.
-use Rattle.std.proofs.Common.{◌≡◌, ◌≢◌, ◌≤◌, ◌<◌, ◌⊎◌, ℕ, zero, suc, ◌+◌, Bool, true, false, List, [], ◌∷◌, ◌++◌, length, take, Option, Some, None, Result, Ok, Err, option_map, refl, ap, subst, sym, ◌∙◌, inl, inr, ⊎_elim, arith, append_assoc, length-append}
+use Rattle.std.proofs.Common.{◌≡◌, ◌≤◌, ◌⊎◌, ℕ, zero, suc, ◌+◌, false, List, [], ◌∷◌, ◌++◌, length, take, Option, Some, None, Result, Ok, Err, option_map, refl, ap, subst, sym, ◌∙◌, inl, inr, ⊎_elim, arith, append_assoc, length-append}
 use Rattle.std.specs.Prelude.{IfSome, map, slice_get}
 use Rattle.satp_base.specs.Founding.{Founding}
 use Rattle.satp_records.specs.Formats.{IsFormed, payload_of}
 use Rattle.satp_records.specs.declared.stored.Stored.{Stored}
 use Rattle.satp_records.specs.declared.stored.Stored.TheVariants as stored
 use Rattle.satp_records.proofs.Payloads.{payloads_fit}
-use Rattle.satp_keeper.specs.Books.{asset_record, hold_record, ledger_payloads}
-use Rattle.std.specs.List.{AllByRecursion, fold}
+use Rattle.satp_base.specs.Acts.{founded}
+use Rattle.satp_base.specs.Genesis.{IsGenesis}
+use Rattle.satp_base.specs.Money.{Book}
+use Rattle.satp_keeper.specs.Books.{Leaves, asset_record, hold_record, ledger_payloads}
+use Rattle.std.specs.List.{AllByRecursion}
 use Rattle.std.proofs.lemmas.List.{append-nil, take_all}
 use Rattle.std.proofs.lemmas.List.Sums.{fold-append}
 use Rattle.satp_base.specs.declared.area.Area.{Area}
@@ -16,7 +19,7 @@ use Rattle.satp_base.specs.declared.area.Event.{Event}
 use Rattle.satp_base.specs.declared.area.Event.TheVariants.{Cut, Synced, Left}
 use Rattle.satp_base.specs.declared.ledger.LedgerKind.{LedgerKind}
 use Rattle.satp_base.specs.Calls.{Told, made, Fails, FailsAmong, IsFailure}
-use Rattle.satp_base.specs.Format.{IsPayload, records, EndsAt, Stands, StandsOpened, IsMendable, Damage}
+use Rattle.satp_base.specs.Format.{IsPayload, records, Stands, StandsOpened}
 use Rattle.satp_base.specs.Laws.{IsInAppend, IsInMend, RestsAt}
 use Rattle.satp_base.specs.Trail.{Trail, Standing, IsImage, extended, next, seen, settled}
 use Rattle.satp_journal.specs.Appending.{AppendAnswers, AppendStops, AtEach, events_of}
@@ -25,8 +28,8 @@ use Rattle.satp_journal.specs.Opening.{FailsToMend, IsInOpening, OpenAnswers, Op
 use Rattle.satp_journal.specs.State.{Held, JournalState, gate_of}
 use Rattle.satp_journal.specs.declared.fault.JournalFault.{JournalFault}
 use Rattle.satp_journal.specs.declared.fault.JournalFault.TheVariants as journal
-use Rattle.satp_keeper.specs.Founding.{FoundStops, GrowStops, Grows, GrowsAnew, IsFoundFault, IsFront}
-use Rattle.satp_keeper.specs.Opening.{IsReplayFault, Opened, UnopenedBy, fault_of}
+use Rattle.satp_keeper.specs.Founding.{FoundStops, GrowStops, GrowsAnew, IsFoundFault, IsFront}
+use Rattle.satp_keeper.specs.Opening.{IsReplayFault, UnopenedBy, fault_of}
 use Rattle.satp_keeper.specs.declared.fault.KeeperFault.{KeeperFault}
 use Rattle.satp_keeper.specs.declared.fault.KeeperFault.TheVariants.{OutOfOrder, Empty, Damaged, Record, Disk, Broken, Memory}
 use Rattle.satp_keeper.proofs.FoundLemmas.{anew_grows, grows_none, grows_on}
@@ -73,8 +76,7 @@ opened t u (ys, is, each) = (cut ++ ys, is ∙ sym (twice t.trail cut ys), λ n 
     at zero rest image shape here = absurd cc
     at (suc m) rest image shape here =
         let there = subst (λ x. IsImage x Ledger image) (twice t.trail cut (take m ys)) here in
-        let read = seen_cut t.trail in
-        (
+        let read = seen_cut t.trail in (
           0,
           none_mended (seen (extended t.trail cut) Ledger) image read ((each m image there).behind rest [] (let h = shape in cc) (inl (short read, refl)) (inl (short read))),
         )
@@ -243,3 +245,7 @@ all_map f formed (x ∷ xs) ys all = (payloads_fit (f x) (formed x), all_map f f
 
 pub all_fit : (kind : LedgerKind) (g : Founding) → AllByRecursion IsPayload (ledger_payloads kind g [])
 all_fit kind g = (payloads_fit (stored.Kind kind) tt, all_map asset_record (λ a. (a.cap.low, a.cap.high)) g.assets (map hold_record g.holds ++ []) (all_map hold_record (λ h. tt) g.holds [] tt))
+
+pub fresh_leaves : (kind : LedgerKind) (genesis : Founding) (payloads texts : List (List ℕ)) (book : Book) (told : Option Told) → IsGenesis genesis → book ≡ founded genesis → IfSome told (λ t. payloads ≡ texts) → texts ≡ ledger_payloads kind genesis [] → IfSome told (λ t. Leaves kind payloads book)
+fresh_leaves kind genesis payloads texts book None valid is list whole = tt
+fresh_leaves kind genesis payloads texts book (Some t) valid is list whole = (genesis, [], record { valid = valid; runs = is; list = list ∙ whole })

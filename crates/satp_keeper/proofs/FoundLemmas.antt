@@ -1,14 +1,12 @@
 -- A founding: the list that it appends, and what a stop leaves of it.
-use Rattle.std.proofs.Common.{◌≡◌, ◌≢◌, ◌≤◌, ◌<◌, ◌⊎◌, ℕ, zero, suc, ◌+◌, ◌-◌, Bool, true, false, List, [], ◌∷◌, ◌++◌, length, take, drop, Option, Some, None, option_map, refl, ap, subst, sym, ◌∙◌, inl, inr, ⊎_elim, arith, add-one, append_assoc, length-append}
-use Rattle.std.specs.Prelude.{slice_get, IfSome}
-use Rattle.std.specs.List.{AllByRecursion}
+use Rattle.std.proofs.Common.{◌≡◌, ◌≤◌, ◌<◌, ℕ, zero, suc, ◌+◌, ◌-◌, List, [], ◌∷◌, ◌++◌, length, take, Option, Some, None, option_map, refl, ap, subst, sym, ◌∙◌, ⊎_elim, arith, add-one, append_assoc}
+use Rattle.std.specs.Prelude.{slice_get}
 use Rattle.std.proofs.lemmas.Bool.{cases_lt}
 use Rattle.std.proofs.lemmas.List.{append-nil, take_all, take-append-le}
 use Rattle.std.proofs.Math.Seq.{take-append-add}
 use Rattle.satp_base.specs.Founding.{Founding}
 use Rattle.satp_base.specs.Genesis.{IsGenesis, asset_pair, hold_triple}
 use Rattle.satp_base.specs.declared.amount.Amount.{Amount}
-use Rattle.satp_base.specs.declared.area.Area.{Area}
 use Rattle.satp_base.specs.declared.area.Area.TheVariants.{Ledger}
 use Rattle.satp_base.specs.declared.area.Event.{Event}
 use Rattle.satp_base.specs.declared.area.Event.TheVariants.{Cut, Synced}
@@ -16,15 +14,14 @@ use Rattle.satp_base.specs.declared.genesis.Asset.{Asset}
 use Rattle.satp_base.specs.declared.genesis.Hold.{Hold}
 use Rattle.satp_base.specs.declared.ledger.LedgerKind.{LedgerKind}
 use Rattle.satp_base.specs.declared.name.Name.{Name}
-use Rattle.satp_base.specs.Calls.{Told, made}
-use Rattle.satp_base.specs.Format.{IsPayload, Stands}
+use Rattle.satp_base.specs.Format.{Stands}
 use Rattle.satp_base.specs.Laws.{IsInAppend, RestsAt}
 use Rattle.satp_base.specs.Trail.{Trail, IsImage, extended}
 use Rattle.satp_base.proofs.Closing.{rest_stands}
 use Rattle.satp_journal.specs.Appending.{AtEach}
 use Rattle.satp_records.specs.Formats.{payload_of}
-use Rattle.satp_keeper.specs.Books.{Operated, asset_record, hold_record, ledger_payloads}
-use Rattle.satp_keeper.specs.Founding.{FoundStops, Grows, GrowStops, GrowsAnew, IsFront, asset_payloads, hold_payloads}
+use Rattle.satp_keeper.specs.Books.{asset_record, hold_record, ledger_payloads}
+use Rattle.satp_keeper.specs.Founding.{Grows, GrowsAnew, IsFront, asset_payloads, hold_payloads}
 use Rattle.satp_keeper.proofs.BookLemmas.{more_assets, more_holds}
 use Rattle.satp_keeper.proofs.Steps.{next_is}
 

@@ -1,8 +1,7 @@
 -- A keeper behind an operation: what it keeps, and what it tells as a ledger.
-use Rattle.std.proofs.Common.{◌≡◌, ◌≢◌, ◌≤◌, ◌<◌, ◌⊎◌, ℕ, ◌+◌, ◌-◌, ◌^◌, ◌↔◌, Bool, true, false, List, [], ◌∷◌, ◌++◌, length, Option, Some, None, Result, Ok, Err, IsTrue, option_map, refl, ap, subst, sym, ◌∙◌, arith, inl, inr, ⊎_elim}
-use Rattle.std.specs.Prelude.{IfSome, IfOk, IfErr, min, if◌then◌else◌}
+use Rattle.std.proofs.Common.{◌≡◌, ◌≢◌, ℕ, ◌↔◌, Bool, true, false, List, [], ◌∷◌, Option, Some, None, Result, Ok, Err, IsTrue, refl, ap, subst, sym, ◌∙◌, inl, inr}
+use Rattle.std.specs.Prelude.{IfSome, if◌then◌else◌}
 use Rattle.satp_base.specs.Acts.{ActsOn, Asks, MayAdd, MayAnswer, operation_events}
-use Rattle.satp_base.specs.declared.area.Area.{Area}
 use Rattle.satp_base.specs.declared.area.Area.TheVariants.{Ledger}
 use Rattle.satp_base.specs.declared.area.Event.{Event}
 use Rattle.satp_base.specs.declared.area.Event.TheVariants.{Acted}
@@ -14,15 +13,13 @@ use Rattle.satp_base.specs.declared.ledger.Entry.{Entry}
 use Rattle.satp_base.specs.declared.ledger.LedgerCall.TheVariants.{Act}
 use Rattle.satp_base.specs.declared.ledger.LedgerKind.{LedgerKind}
 use Rattle.satp_base.specs.declared.ledger.LedgerOp.{LedgerOp}
-use Rattle.satp_base.specs.declared.ledger.LedgerOp.TheVariants.{Lock, Burn, Mint, Assign, Release}
+use Rattle.satp_base.specs.declared.ledger.LedgerOp.TheVariants.{Lock, Mint}
 use Rattle.satp_base.specs.declared.message.Terms.{Terms}
 use Rattle.satp_base.specs.declared.session.SessionId.{SessionId}
-use Rattle.satp_base.specs.Calls.{Told, made, FailsAmong}
-use Rattle.satp_base.specs.LedgerRule.{IsOutOfOrder, LedgerRule, Operation, RuleOn, entry_of, operation}
+use Rattle.satp_base.specs.Calls.{Told}
+use Rattle.satp_base.specs.LedgerRule.{LedgerRule, RuleOn, operation}
 use Rattle.satp_base.specs.Money.{Book}
-use Rattle.satp_base.specs.Streams.{HasCause, Rose}
 use Rattle.satp_base.proofs.RuleLemmas.{rule-gives}
-use Rattle.satp_journal.specs.Appending.{events_of}
 use Rattle.satp_journal.specs.State.{Held}
 use Rattle.satp_records.specs.Formats.{payload_of}
 use Rattle.satp_records.specs.declared.stored.Stored.TheVariants as stored
@@ -129,12 +126,11 @@ module _ (op : LedgerOp) (session : SessionId) (terms : Terms) (b c : Book) (old
   pub tells_ok : (was now : Bool) (answer : Answer) → was ≡ old.broken → now ≡ new.broken → Answers (Ok answer) → TellsAct was now (Ok answer)
   tells_ok was now answer w n is =
       let gives = rule-gives b op session terms answer c is.1 in
-      let o = operation b op session terms in
-      (
+      let o = operation b op session terms in (
         operation_events o op session terms,
         may_add answer is.1,
         subst (λ (x : Bool). IfSome (book x b) (λ y. ActsOn op session terms y (Ok answer) (operation_events o op session terms) (book now c))) (sym (w ∙ is.0))
-        (subst (λ (x : Bool). ActsOn op session terms b (Ok answer) (operation_events o op session terms) (book x c)) (sym (n ∙ whole_ok answer is)) (gives.0, ap Some gives.1, refl)),
+            (subst (λ (x : Bool). ActsOn op session terms b (Ok answer) (operation_events o op session terms) (book x c)) (sym (n ∙ whole_ok answer is)) (gives.0, ap Some gives.1, refl)),
         refl,
       )
 
@@ -143,7 +139,7 @@ module _ (op : LedgerOp) (session : SessionId) (terms : Terms) (b c : Book) (old
     [],
     refl,
     subst (λ (x : Bool). IfSome (book x b) (λ y. ActsOn op session terms y (Err (act.OutOfOrder entry)) [] (book now c))) (sym (w ∙ is.0))
-    (subst (λ (x : Bool). ActsOn op session terms b (Err (act.OutOfOrder entry)) [] (book x c)) (sym (n ∙ ap (λ (h : Held). h.broken) is.2.1 ∙ is.0)) (is.1, ap Some is.2.0, refl)),
+        (subst (λ (x : Bool). ActsOn op session terms b (Err (act.OutOfOrder entry)) [] (book x c)) (sym (n ∙ ap (λ (h : Held). h.broken) is.2.1 ∙ is.0)) (is.1, ap Some is.2.0, refl)),
     inl refl,
   )
 

@@ -1,5 +1,5 @@
 -- Lists by their last element.
-use Rattle.std.proofs.Common.{◌≡◌, ◌⊎◌, ℕ, suc, List, [], ◌∷◌, ◌++◌, length, refl, ap, inl, inr, ⊎_elim}
+use Rattle.std.proofs.Common.{◌≡◌, ◌⊎◌, List, [], ◌∷◌, ◌++◌, refl, ap, inl, inr, ⊎_elim}
 
 module _ {X : Type 0} where
   -- the list without its last element, and that
@@ -16,7 +16,6 @@ module _ {X : Type 0} where
 
   cons_same : (x y : X) (xs ys : List X) → x ∷ xs ≡ y ∷ ys → (x ≡ y) × (xs ≡ ys)
   cons_same x y xs ys e = (cc, cc)
-
 
   pub same_last : (xs ys : List X) (x y : X) → xs ++ x ∷ [] ≡ ys ++ y ∷ [] → (xs ≡ ys) × (x ≡ y)
   same_last [] [] x y e = (refl, (cons_same x y [] [] e).0)

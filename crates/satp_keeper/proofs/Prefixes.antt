@@ -1,8 +1,8 @@
 -- A genesis without its last line.
-use Rattle.std.proofs.Common.{◌≡◌, ◌≢◌, ℕ, ◌+◌, ◌<◌, ◌≤◌, Bool, true, false, cond, List, [], ◌∷◌, ◌++◌, length, Option, Some, None, refl, ap, subst, sym, ◌∙◌, arith, length-append}
+use Rattle.std.proofs.Common.{◌≡◌, ℕ, ◌+◌, ◌≤◌, Bool, true, false, cond, List, [], ◌∷◌, ◌++◌, Option, Some, None, refl, ap, sym, ◌∙◌, arith, length-append}
 use Rattle.std.specs.Prelude.{option_map, find, unwrap_or}
 use Rattle.std.specs.Cmp.{eq_by_cmp_equiv}
-use Rattle.satp_base.specs.Founding.{Founding, cap_among, counted, equal_names, held_among, most_assets, most_holds}
+use Rattle.satp_base.specs.Founding.{cap_among, counted, equal_names, held_among}
 use Rattle.satp_base.specs.Genesis.{AddsAsset, AddsHold, AreApart, IsGenesis}
 use Rattle.satp_base.specs.declared.genesis.Asset.{Asset}
 use Rattle.satp_base.specs.declared.genesis.Hold.{Hold}
@@ -19,8 +19,7 @@ pub hold_before : (assets : List Asset) (hs : List Hold) (h : Hold) → IsGenesi
     → IsGenesis (record { assets = assets; holds = hs }) × AddsHold (record { assets = assets; holds = hs }) h (record { assets = assets; holds = hs ++ h ∷ [] })
 hold_before assets hs h is =
     let sum = held_push hs h h.asset ∙ ap (λ b. held_among hs h.asset + counted b h.amount.number) (names_refl h.asset) in
-    let fits = is.capped h.asset in
-    (
+    let fits = is.capped h.asset in (
       record {
         few_assets = is.few_assets;
         few_holds = omega (arith, is.few_holds, length-append hs (h ∷ []));
@@ -67,8 +66,7 @@ apart_front (x ∷ assets) a h =
 pub asset_before : (xs : List Asset) (a : Asset) → IsGenesis (record { assets = xs ++ a ∷ []; holds = [] })
     → IsGenesis (record { assets = xs; holds = [] }) × AddsAsset (record { assets = xs; holds = [] }) a (record { assets = xs ++ a ∷ []; holds = [] })
 asset_before xs a is =
-    let r = apart_front xs a is.apart in
-    (
+    let r = apart_front xs a is.apart in (
       record {
         few_assets = omega (arith, is.few_assets, length-append xs (a ∷ []));
         few_holds = omega arith;

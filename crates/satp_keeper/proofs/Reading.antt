@@ -1,28 +1,25 @@
 -- A ledger's journal is read in one way, and stops at the first record that may not stand there.
-use Rattle.std.proofs.Common.{◌≡◌, ◌≢◌, ◌⊎◌, ℕ, zero, suc, ◌+◌, ◌<◌, ◌≤◌, Bool, true, false, List, [], ◌∷◌, ◌++◌, length, take, drop, Option, Some, None, refl, ap, ap₂, subst, sym, ◌∙◌, inl, inr, ⊎_elim, arith, append_assoc, length-append}
-use Rattle.std.specs.Prelude.{map, slice_get}
+use Rattle.std.proofs.Common.{◌≡◌, ◌≢◌, ◌⊎◌, ℕ, zero, suc, ◌+◌, ◌<◌, ◌≤◌, true, false, List, [], ◌∷◌, ◌++◌, length, take, drop, refl, ap, ap₂, subst, sym, ◌∙◌, inl, inr, arith, append_assoc, length-append}
+use Rattle.std.specs.Prelude.{map}
 use Rattle.std.proofs.lemmas.List.{append-nil, take-append-drop, length-take}
 use Rattle.satp_base.specs.Acts.{founded}
 use Rattle.satp_base.specs.Founding.{Founding}
-use Rattle.satp_base.specs.Genesis.{AddsAsset, AddsHold, IsGenesis}
+use Rattle.satp_base.specs.Genesis.{AddsAsset, AddsHold}
 use Rattle.satp_base.specs.Keys.{same_amount}
-use Rattle.satp_base.specs.LedgerRule.{LedgerRule, operation}
+use Rattle.satp_base.specs.LedgerRule.{LedgerRule}
 use Rattle.satp_base.specs.Money.{Book}
 use Rattle.satp_base.specs.declared.genesis.Asset.{Asset}
 use Rattle.satp_base.specs.declared.genesis.Hold.{Hold}
 use Rattle.satp_base.specs.declared.ledger.Answer.TheVariants.{Done}
 use Rattle.satp_base.specs.declared.ledger.LedgerKind.{LedgerKind}
-use Rattle.satp_base.specs.declared.ledger.LedgerOp.{LedgerOp}
-use Rattle.satp_base.specs.declared.message.Terms.{Terms}
-use Rattle.satp_base.specs.declared.session.SessionId.{SessionId}
 use Rattle.satp_base.proofs.GenesisLemmas.{with_asset, with_hold}
 use Rattle.satp_records.specs.Formats.{IsFormed, payload_of}
 use Rattle.satp_records.specs.declared.stored.Stored.{Stored}
 use Rattle.satp_records.specs.declared.stored.Stored.TheVariants as stored
 use Rattle.satp_records.proofs.Payloads.{one_record}
-use Rattle.satp_keeper.specs.Books.{Operated, asset_record, hold_record, act_record, ledger_payloads, Runs, IsLedger, Leaves, IsJournal, IsFirstRefused, OneBook, NoneRefused, GoesOn}
+use Rattle.satp_keeper.specs.Books.{Operated, asset_record, hold_record, act_record, ledger_payloads, Runs, IsLedger, Leaves, IsJournal, OneBook, NoneRefused, GoesOn}
 use Rattle.satp_keeper.specs.Replaying.{Standing, Follows, Reads, begun_by, start}
-use Rattle.satp_keeper.proofs.Lists.{by_last, no_last, same_last, Last}
+use Rattle.satp_keeper.proofs.Lists.{by_last, Last}
 use Rattle.satp_keeper.proofs.BookLemmas.{Before, before, more_acts, more_holds, more_assets, none_begun, begun_last, done_same, runs_more}
 
 -- ---- a record is followed by one standing
@@ -64,8 +61,7 @@ module _ (kind : LedgerKind) where
       let a = no_records asset_record f.genesis.assets (map hold_record f.genesis.holds ++ map act_record reads.acts) e.1 in
       let h = no_records hold_record f.genesis.holds (map act_record reads.acts) a.1 in
       let none = no_records_left act_record reads.acts h.1 in
-      let genesis : f.genesis ≡ start.genesis = λ i. record { assets = a.0 i; holds = h.0 i } in
-      (
+      let genesis : f.genesis ≡ start.genesis = λ i. record { assets = a.0 i; holds = h.0 i } in (
         e.0,
         same_standing f start genesis (reads.begun ∙ ap begun_by none) (subst (λ acts. Runs (founded f.genesis) acts f.book) none reads.ledger.runs ∙ ap founded genesis),
       )

@@ -1,6 +1,6 @@
 -- One record more: what the code finds of it.
-use Rattle.std.proofs.Common.{◌≡◌, ◌≢◌, ◌⊎◌, ℕ, zero, suc, ◌+◌, ◌<◌, ◌≤◌, Bool, true, false, List, [], ◌∷◌, ◌++◌, length, take, drop, get_or, Option, Some, None, Result, Ok, Err, refl, ap, subst, sym, ◌∙◌, inl, inr, arith, add-one}
-use Rattle.std.specs.Prelude.{slice_get, is_some, option_map, MatchResult, IsTrue}
+use Rattle.std.proofs.Common.{◌≡◌, ◌≢◌, ℕ, zero, suc, ◌+◌, ◌<◌, ◌≤◌, Bool, true, false, List, [], ◌∷◌, ◌++◌, length, take, Option, Some, None, Result, Ok, Err, refl, ap, subst, sym, ◌∙◌, inl, inr, arith, add-one}
+use Rattle.std.specs.Prelude.{slice_get, is_some, option_map}
 use Rattle.satp_base.specs.Acts.{founded}
 use Rattle.satp_base.specs.Founding.{Founding}
 use Rattle.satp_base.specs.Genesis.{AddsAsset, hold_triple}
@@ -13,7 +13,7 @@ use Rattle.satp_base.specs.declared.message.Terms.{Terms}
 use Rattle.satp_base.specs.declared.name.Name.{Name}
 use Rattle.satp_base.specs.declared.session.SessionId.{SessionId}
 use Rattle.satp_base.specs.declared.text.Memory.{Memory}
-use Rattle.satp_records.specs.Formats.{IsFormed, payload_of}
+use Rattle.satp_records.specs.Formats.{payload_of}
 use Rattle.satp_records.specs.declared.stored.Stored.{Stored}
 use Rattle.satp_records.specs.declared.stored.Stored.TheVariants as stored
 use Rattle.satp_keeper.specs.Books.{IsFirstRefused, IsJournal, IsLedger, Leaves}

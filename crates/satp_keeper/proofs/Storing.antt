@@ -1,17 +1,14 @@
 -- What an operation leaves of the journal.
-use Rattle.std.proofs.Common.{◌≡◌, ◌≤◌, ◌<◌, ◌⊎◌, ℕ, ◌+◌, Bool, true, false, List, [], ◌∷◌, ◌++◌, length, Option, Some, None, Result, Ok, Err, option_map, refl, ap, subst, sym, ◌∙◌, arith, ⊎_elim}
-use Rattle.std.specs.Prelude.{IfSome, IfErr}
+use Rattle.std.proofs.Common.{◌≡◌, ◌≤◌, ◌<◌, ◌⊎◌, ℕ, true, false, List, length, Option, Some, None, Ok, Err, option_map, refl, ap, subst, sym, ◌∙◌, arith, ⊎_elim}
+use Rattle.std.specs.Prelude.{IfSome}
 use Rattle.satp_base.specs.declared.area.Area.{Area}
-use Rattle.satp_base.specs.declared.area.Area.TheVariants.{Ledger}
-use Rattle.satp_base.specs.declared.ledger.Answer.{Answer}
-use Rattle.satp_base.specs.declared.ledger.LedgerKind.{LedgerKind}
 use Rattle.satp_base.specs.declared.ledger.LedgerOp.{LedgerOp}
 use Rattle.satp_base.specs.declared.message.Terms.{Terms}
 use Rattle.satp_base.specs.declared.session.SessionId.{SessionId}
 use Rattle.satp_base.specs.Calls.{Told, made, FailsAmong}
 use Rattle.satp_base.specs.Format.{IsPayload}
 use Rattle.satp_base.specs.Laws.{RestsAt}
-use Rattle.satp_base.specs.LedgerRule.{LedgerRule, operation}
+use Rattle.satp_base.specs.LedgerRule.{operation}
 use Rattle.satp_base.specs.Money.{Book}
 use Rattle.satp_journal.specs.Appending.{AppendAnswers, AppendStops, RestsStill, events_of}
 use Rattle.satp_journal.specs.Opening.{Rests}
@@ -47,8 +44,7 @@ module _ (op : LedgerOp) (session : SessionId) (terms : Terms) (b : Book) (old m
       → (fault ≡ journal.Memory → (records < 1) ⊎ (bytes < length payload)) → AppendAnswers payload mid new told_old told_new (Err fault)
       → (old.broken ≡ false) × ((operation b op session terms).changes ≡ true) × (new ≡ record old { broken = true }) × FailsAmong old.area (events_of old (payload_of (stored.Act op session terms))) told_old told_new
   keep_failed fault records bytes e p whole changes some enough memory is =
-      let r = append_failed payload mid new told_old told_new fault (ap (λ (h : Held). h.broken) e ∙ whole) (λ m. ⊎_elim (λ h. omega (arith, h, some)) (λ h. omega (arith, h, enough)) (memory m)) is in
-      (
+      let r = append_failed payload mid new told_old told_new fault (ap (λ (h : Held). h.broken) e ∙ whole) (λ m. ⊎_elim (λ h. omega (arith, h, some)) (λ h. omega (arith, h, enough)) (memory m)) is in (
         whole,
         changes,
         r.1 ∙ ap (λ (h : Held). let x : Held = record h { broken = true } in x) e,

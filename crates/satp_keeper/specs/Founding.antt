@@ -1,5 +1,5 @@
 -- What a founding of a kept ledger leaves.
-use Rattle.std.specs.Prelude.{◌≡◌, ◌⊎◌, ℕ, List, [], ◌∷◌, take, Option, None, Some, IfSome, OnSome}
+use Rattle.std.specs.Prelude.{◌≡◌, ℕ, List, [], ◌∷◌, take, Option, None, Some, IfSome}
 use Rattle.satp_base.specs.declared.amount.Amount.{Amount}
 use Rattle.satp_base.specs.declared.area.Area.TheVariants.{Ledger}
 use Rattle.satp_base.specs.declared.area.Event.{Event}

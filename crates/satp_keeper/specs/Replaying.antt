@@ -1,5 +1,5 @@
 -- How one record of a ledger's journal follows those before it.
-use Rattle.std.specs.Prelude.{◌≡◌, ◌≢◌, ◌⊎◌, ℕ, Bool, true, false, List, [], ◌∷◌, Option, Some, None, slice_get, Result, Ok, Err}
+use Rattle.std.specs.Prelude.{◌≡◌, ◌≢◌, ℕ, Bool, true, false, List, [], ◌∷◌, Option, Some, None, slice_get, Result, Ok, Err}
 use Rattle.satp_base.specs.Acts.{founded}
 use Rattle.satp_base.specs.Founding.{Founding}
 use Rattle.satp_base.specs.Genesis.{AddsAsset, AddsHold}

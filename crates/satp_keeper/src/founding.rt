@@ -10,32 +10,30 @@ ghost use Rattle.satp_base.specs.declared.area.Area.TheVariants.{Ledger};
 ghost use Rattle.satp_journal.specs.Opening.{Rests};
 ghost use Rattle.satp_journal.specs.State.{Fits};
 ghost use Rattle.satp_records.specs.Formats.{IsFormed, payload_of};
-ghost use Rattle.satp_keeper.specs.Books.{ledger_payloads};
+ghost use Rattle.satp_keeper.specs.Books.{Leaves, ledger_payloads};
 ghost use Rattle.satp_keeper.specs.Founding.{FoundStops, GrowStops, IsFoundFault, asset_payloads, hold_payloads};
 
 use crate::fault::{KeeperFault, fault_of};
-use satp_base::{Amount, Area, Disk, DiskFault, Genesis, LedgerCore, LedgerKind, Memory, Name, Texts};
+use satp_base::{
+    Amount, Area, Disk, DiskFault, Genesis, LedgerCore, LedgerKind, Memory, Name, Texts,
+};
 use satp_journal::Journal;
 use satp_records::{Stored, encode};
 use std::alloc::Global;
 
 /// Puts the payload of a record behind the others.
-fn push_record(alloc: Global, texts: &mut Texts, record: &Stored) -> Result<(), Memory>
-    requires { IsFormed «record».now }
-    ensures { OnOk result (texts.new ≡ texts.old ++ payload_of «record».now ∷ []) }
+fn push_record(alloc: Global, texts: &mut Texts, stored: &Stored) -> Result<(), Memory>
+    requires { IsFormed stored.now }
+    ensures { OnOk result (texts.new ≡ texts.old ++ payload_of stored.now ∷ []) }
 {
-    let payload = encode(alloc, record)?;
+    let payload = encode(alloc, stored)?;
     match texts.push(payload) {
         Ok(()) => Ok(()),
         Err(_) => Err(Memory),
     }
 }
 
-fn push_asset(
-    alloc: Global,
-    texts: &mut Texts,
-    asset: Option<(Name, Amount)>,
-) -> Result<(), Memory>
+fn push_asset(alloc: Global, texts: &mut Texts, asset: Option<(Name, Amount)>) -> Result<(), Memory>
     ensures { OnOk result (texts.new ≡ texts.old ++ asset_payloads asset) }
 {
     match asset {
@@ -146,6 +144,7 @@ pub(crate) fn set_up<C: LedgerCore, D: Disk>(
     genesis: &Genesis,
 ) -> Result<(C, Journal), KeeperFault>
     ensures set { IfOk result (λ x. (C.book x.0 ≡ founded genesis.now) × (x.1.held.area ≡ Ledger) × (x.1.held.broken ≡ false) × Fits x.1.held (D.told disk.new) × Rests (D.told disk.new) x.1.held × IfSome (D.told disk.new) (λ t. x.1.held.payloads ≡ ledger_payloads kind genesis.now [])) }
+    ensures leaves { IfOk result (λ x. IfSome (D.told disk.new) (λ t. Leaves kind x.1.held.payloads (C.book x.0))) }
     ensures fault { IfErr result (IsFoundFault (D.told disk.old)) }
     ensures stops { FoundStops (ledger_payloads kind genesis.now []) (D.told disk.old) (D.told disk.new) }
     ensures later { D.faults disk.old ≤ D.faults disk.new }

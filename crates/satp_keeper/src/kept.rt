@@ -2,7 +2,6 @@ ghost use Rattle.std.specs.Prelude.{◌≡◌, ◌≤◌, ◌+◌, Ok, Some, Non
 ghost use Rattle.satp_base.specs.Acts.{founded};
 ghost use Rattle.satp_base.specs.Streams.{HasCause, Rose};
 ghost use Rattle.satp_base.specs.declared.area.Area.TheVariants.{Ledger};
-ghost use Rattle.satp_base.specs.declared.ledger.LedgerKind.{LedgerKind};
 ghost use Rattle.satp_journal.specs.Appending.{AppendStops, RestsStill};
 ghost use Rattle.satp_journal.specs.Opening.{OpenAnswers, OpenStops, Rests};
 ghost use Rattle.satp_journal.specs.State.{Fits};
@@ -39,7 +38,6 @@ pub struct Unopened<D> {
 #[derive(Drop)]
 pub struct Kept<C: LedgerCore, D: Disk> {
     alloc: Global,
-    kind: LedgerKind,
     core: C,
     disk: D,
     journal: Journal,
@@ -78,21 +76,20 @@ impl<C: LedgerCore, D: Disk> Kept<C, D> {
     ///
     /// `Memory`, or `Disk`, which comes only where the disk's count of faults rose. `Damaged` comes exactly where the journal's opening behind the cut answers it, which a disk that tells never does.
     pub fn found(alloc: Global, disk: D, genesis: &Genesis) -> Result<Kept<C, D>, Unopened<D>>
-        ensures found { IfOk result (λ k. (C.book k.core ≡ founded genesis.now) × (k.broken ≡ false) × Rests (D.told k.disk) k.journal.held × IfSome (D.told k.disk) (λ t. k.journal.held.payloads ≡ ledger_payloads k.kind genesis.now [])) }
+        ensures found { IfOk result (λ k. (C.book k.core ≡ founded genesis.now) × (k.broken ≡ false) × Rests (D.told k.disk) k.journal.held × IfSome (D.told k.disk) (λ t. k.journal.held.payloads ≡ ledger_payloads C.KIND genesis.now [])) }
+        ensures leaves { IfOk result (λ k. IfSome (D.told k.disk) (λ t. Leaves C.KIND k.journal.held.payloads (C.book k.core))) }
         ensures fault { IfErr result (λ u. IsFoundFault (D.told disk) u.fault) }
         ensures stops { MatchResult result
-            (λ k. FoundStops (ledger_payloads k.kind genesis.now []) (D.told disk) (D.told k.disk))
-            (λ u. (kind : LedgerKind) × FoundStops (ledger_payloads kind genesis.now []) (D.told disk) (D.told u.disk)) }
+            (λ k. FoundStops (ledger_payloads C.KIND genesis.now []) (D.told disk) (D.told k.disk))
+            (λ u. FoundStops (ledger_payloads C.KIND genesis.now []) (D.told disk) (D.told u.disk)) }
         ensures counts { IfOk result (λ k. (k.tally.faults ≡ 0) × (k.tally.wants ≡ 0)) }
         ensures later { MatchResult result (λ k. D.faults disk ≤ D.faults k.disk) (λ u. D.faults disk ≤ D.faults u.disk) }
         ensures cause { IfErr result (λ u. u.fault ≡ KeeperFault.Disk → Rose (D.faults disk) (D.faults u.disk)) }
     {
         let mut disk = disk;
-        let kind = C::KIND;
-        match set_up(alloc, &mut disk, kind, genesis) {
+        match set_up(alloc, &mut disk, C::KIND, genesis) {
             Ok((core, journal)) => Ok(Kept {
                 alloc,
-                kind,
                 core,
                 disk,
                 journal,
@@ -109,19 +106,17 @@ impl<C: LedgerCore, D: Disk> Kept<C, D> {
     /// `Disk` comes only where the disk's count of faults rose.
     pub fn open(alloc: Global, disk: D) -> Result<Kept<C, D>, Unopened<D>>
         ensures opened { MatchResult result
-            (λ k. OpenAnswers Ledger (D.told disk) (D.told k.disk) (Ok k.journal) × Leaves k.kind k.journal.held.payloads (C.book k.core) × Rests (D.told k.disk) k.journal.held × (k.broken ≡ false))
-            (λ u. (kind : LedgerKind) × UnopenedBy kind (D.told disk) (D.told u.disk) u.fault) }
+            (λ k. OpenAnswers Ledger (D.told disk) (D.told k.disk) (Ok k.journal) × Leaves C.KIND k.journal.held.payloads (C.book k.core) × Rests (D.told k.disk) k.journal.held × (k.broken ≡ false))
+            (λ u. UnopenedBy C.KIND (D.told disk) (D.told u.disk) u.fault) }
         ensures stops { MatchResult result (λ k. OpenStops Ledger (D.told disk) (D.told k.disk)) (λ u. OpenStops Ledger (D.told disk) (D.told u.disk)) }
         ensures counts { IfOk result (λ k. (k.tally.faults ≡ 0) × (k.tally.wants ≡ 0)) }
         ensures later { MatchResult result (λ k. D.faults disk ≤ D.faults k.disk) (λ u. D.faults disk ≤ D.faults u.disk) }
         ensures cause { IfErr result (λ u. u.fault ≡ KeeperFault.Disk → Rose (D.faults disk) (D.faults u.disk)) }
     {
         let mut disk = disk;
-        let kind = C::KIND;
-        match open_ledger(alloc, &mut disk, kind) {
+        match open_ledger(alloc, &mut disk, C::KIND) {
             Ok((core, journal)) => Ok(Kept {
                 alloc,
-                kind,
                 core,
                 disk,
                 journal,
@@ -142,7 +137,7 @@ impl<C: LedgerCore, D: Disk> Kept<C, D> {
         ensures answers { KeepAnswers op session terms.now (C.book self.old.core) (C.book self.new.core) self.old.journal.held self.new.journal.held (D.told self.old.disk) (D.told self.new.disk) result }
         ensures stops { AppendStops (payload_of (stored.Act op session terms.now)) self.old.journal.held (D.told self.old.disk) (D.told self.new.disk) }
         ensures rests { self.new.broken ≡ false → RestsStill Ledger self.old.journal.held.payloads self.new.journal.held.payloads (D.told self.old.disk) (D.told self.new.disk) }
-        ensures leaves { (kind : LedgerKind) → Leaves kind self.old.journal.held.payloads (C.book self.old.core) → self.new.broken ≡ false → Leaves kind self.new.journal.held.payloads (C.book self.new.core) }
+        ensures leaves { Leaves C.KIND self.old.journal.held.payloads (C.book self.old.core) → self.new.broken ≡ false → Leaves C.KIND self.new.journal.held.payloads (C.book self.new.core) }
         ensures tally { self.new.tally ≡ self.old.tally }
         ensures later { D.faults self.old.disk ≤ D.faults self.new.disk }
         ensures disk { IfErr result (λ fault. fault ≡ KeeperFault.Disk → Rose (D.faults self.old.disk) (D.faults self.new.disk)) }
@@ -179,7 +174,7 @@ impl<C: LedgerCore, D: Disk> Kept<C, D> {
         ensures answers { KeepAnswers op session terms.now (C.book self.old.core) (C.book self.new.core) self.old.journal.held self.new.journal.held (D.told self.old.disk) (D.told self.new.disk) result }
         ensures stops { AppendStops (payload_of (stored.Act op session terms.now)) self.old.journal.held (D.told self.old.disk) (D.told self.new.disk) }
         ensures rests { self.new.broken ≡ false → RestsStill Ledger self.old.journal.held.payloads self.new.journal.held.payloads (D.told self.old.disk) (D.told self.new.disk) }
-        ensures leaves { (kind : LedgerKind) → Leaves kind self.old.journal.held.payloads (C.book self.old.core) → self.new.broken ≡ false → Leaves kind self.new.journal.held.payloads (C.book self.new.core) }
+        ensures leaves { Leaves C.KIND self.old.journal.held.payloads (C.book self.old.core) → self.new.broken ≡ false → Leaves C.KIND self.new.journal.held.payloads (C.book self.new.core) }
         ensures faults { self.new.tally.faults ≡ counted faults_after self.old.tally.faults result }
         ensures wants { self.new.tally.wants ≡ counted wants_after self.old.tally.wants result }
         ensures later { D.faults self.old.disk ≤ D.faults self.new.disk }
@@ -195,7 +190,7 @@ impl<C: LedgerCore, D: Disk> Kept<C, D> {
         }
     }
 
-    /// The ledger itself. Where the keeper is broken it may stand one operation behind what it tells.
+    /// The ledger itself. Where the keeper is broken, it may have an operation more than the disk.
     pub fn core(&self) -> &C
         ensures { result.now ≡ self.now.core }
     {
@@ -235,12 +230,7 @@ impl<C: LedgerCore, D: Disk> Device for Kept<C, D> {
 }
 
 impl<C: LedgerCore, D: Disk> Ledger for Kept<C, D> {
-    fn act(
-        &mut self,
-        op: LedgerOp,
-        session: SessionId,
-        terms: &Terms,
-    ) -> Result<Answer, ActFault> {
+    fn act(&mut self, op: LedgerOp, session: SessionId, terms: &Terms) -> Result<Answer, ActFault> {
         match Kept::act(self, op, session, terms) {
             Ok(answer) => Ok(answer),
             Err(KeeperFault::OutOfOrder { entry }) => Err(ActFault::OutOfOrder { entry }),

@@ -38,7 +38,6 @@ fn is_done<C: LedgerCore>(
     }
 }
 
-
 impl<C: LedgerCore> Replay<C> {
     fn add_asset(&mut self, name: Name, cap: u64) -> Result<bool, Memory>
         ensures { FollowAnswers (standing_of C.book self.old.genesis self.old.core) (stored.Asset name cap) (standing_of C.book self.new.genesis self.new.core) result }

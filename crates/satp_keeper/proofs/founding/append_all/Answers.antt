@@ -52,8 +52,7 @@ loop-index-preserved g c =
     let a = c.in-Ok.ensures.answers in
     let next = sym c.in-Some.ensures ∙ ap Some (sym c.bytes.ensures) in
     let whole = ap (λ (h : Held). h.broken) a.1 ∙ is.1 in
-    let untold = append_untold c.bytes.result.now held new told behind (Ok tt) a in
-    (
+    let untold = append_untold c.bytes.result.now held new told behind (Ok tt) a in (
       ap (λ (h : Held). h.area) a.1 ∙ is.0,
       whole,
       c.in-Ok.ensures.fits whole,

@@ -1,5 +1,4 @@
-use Rattle.std.proofs.Common.{arith}
-use Rattle.satp_keeper.proofs.FoundLemmas.{asset_more, assets_done, hold_more, holds_done}
+use Rattle.satp_keeper.proofs.FoundLemmas.{asset_more, hold_more}
 use Rattle.satp_keeper.proofs.founding.first_payloads.Goals as goal
 
 pub loop-index-preserved : goal.loop-index-preserved

@@ -1,9 +1,9 @@
-use Rattle.std.proofs.Common.{refl, ap, ◌∙◌, sym, subst, List, ℕ, []}
+use Rattle.std.proofs.Common.{sym, subst, List, ℕ, []}
 use Rattle.std.specs.List.{AllByRecursion}
 use Rattle.satp_base.specs.Format.{IsPayload}
 use Rattle.satp_keeper.specs.Books.{ledger_payloads}
 use Rattle.satp_keeper.specs.Founding.{GrowStops}
-use Rattle.satp_keeper.proofs.ClearLemmas.{all_fit, founds, wider}
+use Rattle.satp_keeper.proofs.ClearLemmas.{all_fit, founds, fresh_leaves, wider}
 use Rattle.satp_keeper.proofs.founding.set_up.Goals as goal
 
 pub returns-in-Err-open_empty-clause-stops : goal.returns-in-Err-open_empty-clause-stops
@@ -25,3 +25,7 @@ returns-in-Err-append_all-clause-stops g c =
     let mid = g.D.Device.told c.open_empty.new.disk in
     let new = g.D.Device.told c.append_all.new.disk in
     founds (ledger_payloads c.args.kind c.args.genesis.now []) old mid new c.in-Ok-open_empty.ensures.stops (subst (λ (l : List (List ℕ)). GrowStops l mid new) c.in-Ok-first_payloads.ensures.list c.in-Err-append_all.ensures.stops) c.in-Err-append_all.ensures.untold
+
+pub returns-in-Ok-append_all-clause-leaves : goal.returns-in-Ok-append_all-clause-leaves
+returns-in-Ok-append_all-clause-leaves g c =
+    fresh_leaves c.args.kind c.args.genesis.now c.append_all.new.journal.held.payloads _ (g.C.LedgerCore.book c.in-Ok.core) (g.D.Device.told c.append_all.new.disk) c.in-Ok-first_payloads.ensures.valid c.in-Ok.ensures c.in-Ok-append_all.ensures.appended.4 c.in-Ok-first_payloads.ensures.list

@@ -1,4 +1,4 @@
-use Rattle.std.proofs.Common.{◌≤◌, length, take}
+use Rattle.std.proofs.Common.{take}
 use Rattle.satp_keeper.specs.Replaying.{Reads, standing_of}
 use Rattle.satp_keeper.proofs.replay.read_ledger.Given as goal
 

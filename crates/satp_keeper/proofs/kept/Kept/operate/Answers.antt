@@ -15,7 +15,7 @@ returns-in-Ok-clause-leaves g c =
     let told = g.D.Device.told c.args.self.now.disk in
     let behind = g.D.Device.told c.keep.new.disk in
     let whole = whole_ok c.args.op c.args.session c.args.terms.now b d old new told behind c.in-Ok.answer c.in-Ok.ensures.answers in
-    λ kind leaves unbroken. leaves_on c.args.op c.args.session c.args.terms.now b d old new told behind (Ok c.in-Ok.answer) c.in-Ok.ensures.answers kind leaves whole
+    λ leaves unbroken. leaves_on c.args.op c.args.session c.args.terms.now b d old new told behind (Ok c.in-Ok.answer) c.in-Ok.ensures.answers g.C.LedgerCore.KIND leaves whole
 
 pub invariant_of-self : goal.invariant_of-self
 invariant_of-self g c =

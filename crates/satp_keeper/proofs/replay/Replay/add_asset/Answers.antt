@@ -1,4 +1,4 @@
-use Rattle.std.proofs.Common.{sym, ◌∙◌}
+use Rattle.std.proofs.Common.{sym}
 use Rattle.satp_keeper.proofs.Steps.{asset_follows}
 use Rattle.satp_keeper.proofs.replay.Replay.add_asset.Goals as goal
 

@@ -18,9 +18,8 @@ returns-in-Ok-true g c =
 pub returns-in-Ok-false : goal.returns-in-Ok-false
 returns-in-Ok-false g c =
     let f = standing_of g.C.LedgerCore.book c.args.self.now.genesis c.args.self.now.core in
-    let h = standing_of g.C.LedgerCore.book c.follows.new.self.genesis c.follows.new.self.core in
-    (
+    let h = standing_of g.C.LedgerCore.book c.follows.new.self.genesis c.follows.new.self.core in (
       refl,
       step_refused c.args.journal.now.held.payloads c.args.index f c.in-Ok.stored c.in-Ok.ensures
-      (subst (λ (b : Bool). FollowAnswers f c.in-Ok.stored h (Ok b)) c.in-Ok-false.field-0-test c.in-Ok-false.ensures),
+          (subst (λ (b : Bool). FollowAnswers f c.in-Ok.stored h (Ok b)) c.in-Ok-false.field-0-test c.in-Ok-false.ensures),
     )

@@ -124,14 +124,14 @@ module _ (p : Plan) where
         at n image (inr le) here =
             let front = take-append-le n first (Founded ∷ es) le in
             subst (λ (l : List Event). IsInSetUp p t.trail l image) (sym front)
-              (opening t.trail (take n first) image (opening_was.2 n image (subst (λ (l : List Event). IsImage (extended t.trail l) JournalA image) front here)))
+            (opening t.trail (take n first) image (opening_was.2 n image (subst (λ (l : List Event). IsImage (extended t.trail l) JournalA image) front here)))
         at n image (inl lt) here =
             let k = n - length first - 1 in
             let is_n : n ≡ length first + suc k = omega (arith, lt) in
             let front : take n (first ++ Founded ∷ es) ≡ first ++ Founded ∷ take k es = ap (λ (i : ℕ). take i (first ++ Founded ∷ es)) is_n ∙ take-append-add first (Founded ∷ es) (suc k) in
             subst (λ (l : List Event). IsInSetUp p t.trail l image) (sym front)
-              (late (take k es) (cut_front JournalA (setup_events p) es cut k) (keeps_front founded_trail es k (subst KeepsModel is keeps)) image
-                (subst (λ (l : List Event). IsImage (extended t.trail l) JournalA image) front here))
+            (late (take k es) (cut_front JournalA (setup_events p) es cut k) (keeps_front founded_trail es k (subst KeepsModel is keeps)) image
+            (subst (λ (l : List Event). IsImage (extended t.trail l) JournalA image) front here))
 
   -- ---- the whole set-up
 
@@ -184,7 +184,7 @@ module _ (p : Plan) where
       let founded = extended m.trail (Founded ∷ []) in
       let e : u.trail ≡ extended founded (setup_events p) = trail_of (made 4 (setup_events p) (founds p m)) u is in
       subst (λ (x : Trail). RestsAt x JournalA (p.payload ∷ [])) (sym e)
-        (append_ends founded JournalA [] p.payload ok (rests_founded m.trail (opens_rests t m opens)) (keeps_begin founded (setup_events p) (subst KeepsModel e keeps)))
+      (append_ends founded JournalA [] p.payload ok (rests_founded m.trail (opens_rests t m opens)) (keeps_begin founded (setup_events p) (subst KeepsModel e keeps)))
 
   pub rests : IsPayload p.payload → (old new : Option Told) (before behind : Option Book) (result : Result (Unit {0}) SetUpFault) → Keeps new → SetUpAnswers p (tells old before) (tells new behind) result → OnOk result (RestsSetUp p new)
   rests ok old new before behind (Err fault) keeps answers = tt

@@ -46,6 +46,6 @@ measure() {
     }'
 }
 
-measure 1 "${1:-2000}"
+measure 1 "${1:-500}"
 measure 64 "${2:-20000}"
 measure 4096 "${3:-100000}"

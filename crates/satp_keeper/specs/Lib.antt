@@ -3,3 +3,4 @@ pub mod Replaying
 pub mod Opening
 pub mod Operating
 pub mod Founding
+pub mod Telling

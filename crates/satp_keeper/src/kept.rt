@@ -220,13 +220,15 @@ fn is_disk(fault: KeeperFault) -> bool
 }
 
 impl<C: LedgerCore, D: Disk> Device for Kept<C, D> {
+    ghost use Rattle.satp_keeper.specs.Telling.{untold_keeps};
+
     ghost told = { λ k. None };
 
     ghost book = { λ k. if k.broken then None else Some (C.book k.core) };
 
     ghost faults = { λ k. D.faults k.disk + k.tally.faults };
 
-    ghost keeps_model = { λ k t is. Prim.cc };
+    ghost keeps_model = { λ k t is. untold_keeps t is };
 }
 
 impl<C: LedgerCore, D: Disk> Ledger for Kept<C, D> {

@@ -8,6 +8,4 @@ mod hash_tests;
 #[cfg(test)]
 mod journal_tests;
 #[cfg(test)]
-mod keeper_tests;
-#[cfg(test)]
 mod jws_tests;

@@ -1,11 +1,9 @@
-//! The program `satp`: the real devices, and the command line's run over them.
+//! The program `satp`: the command line's run over the real devices.
 #![tactic(auto)]
 
-mod devices;
-
-use crate::devices::{Input, Output};
 use satp_app::run;
 use satp_base::{Memory, Text, Texts};
+use satp_devices::{Input, Output};
 use std::env;
 use std::io::ErrorKind;
 use std::process::ExitCode;

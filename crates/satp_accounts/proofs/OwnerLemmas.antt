@@ -1,10 +1,9 @@
 -- Owners' amounts in an ordered map.
 use Rattle.std.proofs.Common.{◌≡◌, ℕ, ◌+◌, ◌≤◌, ◌&&◌, Bool, true, false, cond, Option, Some, None, refl, ap, sym, subst, ◌∙◌, arith}
 use Rattle.std.specs.Prelude.{unwrap_or}
-use Rattle.std.specs.List.{sum_by}
 use Rattle.std.specs.Ordering.{eq_by_cmp, is_eq, ordering_then}
-use Rattle.std.specs.Cmp.{IsTotalOrder, eq_by_cmp_equiv}
-use Rattle.std.specs.FinMap.{IsAntisymmetric, entries, get, get-insert, insert}
+use Rattle.std.specs.Cmp.{IsTotalOrder}
+use Rattle.std.specs.FinMap.{IsAntisymmetric, get, get-insert, insert}
 use Rattle.std.specs.declared.cmp.Ordering.{Ordering}
 use Rattle.std.specs.declared.cmp.Ordering.TheVariants.{Less, Equal, Greater}
 use Rattle.std.proofs.lemmas.Cmp.{then_total, on_total}
@@ -12,11 +11,11 @@ use Rattle.std.proofs.lemmas.Map.Lookups.{exact_pairs}
 use Rattle.satp_base.specs.Founding.{counted, equal_names}
 use Rattle.satp_base.specs.Keys.{name_cmp}
 use Rattle.satp_base.specs.declared.name.Name.{Name}
-use Rattle.satp_base.proofs.GenesisLemmas.{equal_name, names_total, names_refl}
+use Rattle.satp_base.proofs.GenesisLemmas.{names_total, names_refl}
 use Rattle.satp_base.proofs.SessionLemmas.{exact_names}
 use Rattle.satp_money.proofs.Sums.{counts, sum_insert}
 use Rattle.satp_accounts.specs.Owners.{Amounts, amount_at, owned_cmp, sum_at}
-use Rattle.satp_accounts.specs.declared.owned.Owned.{Owned}
+use Rattle.satp_money.specs.declared.owned.Owned.{Owned}
 
 pub owned_total : IsTotalOrder owned_cmp
 owned_total = then_total (on_total (λ o. o.asset) names_total) (on_total (λ o. o.owner) names_total)

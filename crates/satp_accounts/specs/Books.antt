@@ -4,7 +4,4 @@ use Rattle.satp_base.specs.Money.{Book}
 use Rattle.satp_accounts.specs.declared.accounts.Accounts.{Accounts}
 
 abbrev pub book_of : Accounts → Book
-book_of a = record {
-  genesis = record { assets = a.assets.items; holds = a.holds.items };
-  entries = map.from_entries a.entries.entries;
-}
+book_of a = record { genesis = a.genesis; entries = map.from_entries a.entries.entries }

@@ -1,4 +1,2 @@
 pub mod Owners
-pub mod Steps
-pub mod Copies
 pub mod Books

@@ -2,12 +2,13 @@ ghost use Rattle.std.specs.FinMap as map;
 ghost use Rattle.satp_money.specs.Amounts.{Agrees};
 ghost use Rattle.satp_accounts.specs.Owners.{amount_at, sum_at};
 
-use crate::begin::{copy_assets, copy_holds, first_amounts};
-use crate::owned::Owned;
-use crate::table::{are_equal, cap_in, is_giving, is_still, pledged_part, receiver, result_of};
+use crate::begin::first_amounts;
 use satp_base::{
-    Answer, Asset, CoreFault, Entry, Genesis, Hold, LedgerCore, LedgerEntry, LedgerKind, LedgerOp,
-    Memory, Name, SessionId, Terms,
+    Answer, CoreFault, Entry, Genesis, LedgerCore, LedgerEntry, LedgerKind, LedgerOp, Memory, Name,
+    SessionId, Terms,
+};
+use satp_money::{
+    Owned, are_equal, entry_in, is_giving, is_still, pledged_in, receiver, result_of, standing_in,
 };
 use std::alloc::Global;
 use std::collections::BTreeMap;
@@ -15,12 +16,11 @@ use std::collections::BTreeMap;
 /// A ledger that keeps what each owner is free to use of each asset.
 #[derive(Drop)]
 pub struct Accounts {
-    assets: Vec<Asset>,
-    holds: Vec<Hold>,
+    genesis: Genesis,
     entries: BTreeMap<SessionId, LedgerEntry>,
     amounts: BTreeMap<Owned, u64>,
     pub ghost agrees: { Agrees
-        (record { genesis = record { assets = assets.items; holds = holds.items }; entries = map.from_entries entries.entries })
+        (record { genesis = genesis; entries = map.from_entries entries.entries })
         (amount_at (map.from_entries amounts.entries)) (sum_at (map.from_entries amounts.entries)) },
 }
 
@@ -32,27 +32,13 @@ impl Accounts {
     ghost use Rattle.satp_base.specs.declared.ledger.Entry.TheVariants.{Absent};
     ghost use Rattle.satp_base.specs.declared.ledger.LedgerOp.TheVariants.{Assign, Burn, Lock, Mint, Release};
     ghost use Rattle.satp_accounts.specs.Books.{book_of};
-    ghost use Rattle.satp_accounts.specs.Steps.{Ends, FitsCap, is_giving, is_still, receiver, with_result};
+    ghost use Rattle.satp_money.specs.Steps.{Ends, FitsCap, is_giving, is_still, receiver, with_result};
 
     /// What is free of an owner.
     fn amount(&self, owned: Owned) -> u64
         ensures { result ≡ free_of (book_of self.now) owned.asset owned.owner }
     {
         self.amounts.get(&owned).copied().unwrap_or(0)
-    }
-
-    /// The entry of a session, and the terms that hold for it: those given where it has none.
-    fn standing(&self, session: SessionId, terms: Terms) -> (Entry, Terms)
-        ensures entry { result.0 ≡ entry_of (book_of self.now).entries session }
-        ensures terms { result.1 ≡ terms_of (book_of self.now).entries session terms }
-    {
-        match self.entries.get(&session).copied() {
-            None => (Entry::Absent, terms),
-            Some(kept) => match kept.entry {
-                Entry::Absent => (Entry::Absent, terms),
-                entry => (entry, kept.terms),
-            },
-        }
     }
 
     /// Puts the operation's result as the session's entry, where no owner's amount changes.
@@ -172,7 +158,7 @@ impl Accounts {
         requires none { entry_of (book_of self.old).entries session ≡ Absent }
         ensures { Applies Mint session terms (book_of self.old) result (book_of self.new) }
     {
-        let Some(cap) = cap_in(&self.assets, terms.asset) else {
+        let Some(cap) = self.genesis.cap(terms.asset) else {
             return Ok(Answer::UnknownAsset);
         };
         let total = self.total_of(terms.asset);
@@ -227,22 +213,11 @@ impl Accounts {
         sum
     }
 
-    /// What is locked or minted of an asset.
-    fn pledged_of(&self, asset: Name) -> u64
-        ensures { result ≡ sum_entries (pledged asset) (book_of self.now).entries }
-    {
-        let mut sum = 0;
-        for (_, kept) in self.entries.iter() {
-            sum += pledged_part(asset, *kept);
-        }
-        sum
-    }
-
     /// How much of an asset there is.
     fn total_of(&self, asset: Name) -> u64
         ensures { result ≡ total_of (book_of self.now) asset }
     {
-        self.free_sum_of(asset) + self.pledged_of(asset)
+        self.free_sum_of(asset) + pledged_in(&self.entries, asset)
     }
 }
 
@@ -253,13 +228,15 @@ impl LedgerCore for Accounts {
 
     const KIND: LedgerKind = LedgerKind::Accounts;
 
+    ghost use Rattle.satp_base.specs.declared.ledger.LedgerKind.TheVariants as kind;
+
+    ghost KIND = { kind.Accounts };
+
     fn begin(alloc: Global, genesis: &Genesis) -> Result<Accounts, Memory> {
-        let assets = copy_assets(alloc, genesis)?;
-        let holds = copy_holds(alloc, genesis)?;
-        let amounts = first_amounts(alloc, &holds)?;
+        let amounts = first_amounts(alloc, genesis)?;
+        let genesis = genesis.copy(alloc)?;
         Ok(Accounts {
-            assets,
-            holds,
+            genesis,
             entries: BTreeMap::new(alloc),
             amounts,
         })
@@ -271,7 +248,7 @@ impl LedgerCore for Accounts {
         session: SessionId,
         terms: &Terms,
     ) -> Result<Answer, CoreFault> {
-        let (entry, kept) = self.standing(session, *terms);
+        let (entry, kept) = standing_in(&self.entries, session, *terms);
         match op {
             LedgerOp::Lock => self.lock(session, entry, *terms),
             LedgerOp::Mint => self.mint(session, entry, *terms),
@@ -280,10 +257,7 @@ impl LedgerCore for Accounts {
     }
 
     fn entry(&self, session: SessionId) -> Entry {
-        match self.entries.get(&session) {
-            Some(kept) => kept.entry,
-            None => Entry::Absent,
-        }
+        entry_in(&self.entries, session)
     }
 
     fn free(&self, asset: Name, owner: Name) -> u64 {

@@ -1,79 +1,43 @@
-ghost use Rattle.std.specs.Prelude.{◌≡◌, ◌≤◌, ◌++◌, IfOk, OnOk};
+ghost use Rattle.std.specs.Prelude.{IfOk, OnOk};
 ghost use Rattle.std.specs.FinMap as map;
-ghost use Rattle.satp_base.specs.Founding.{held_among};
 ghost use Rattle.satp_base.specs.Genesis.{IsGenesis};
-ghost use Rattle.satp_base.specs.Numbers.{greatest_amount};
-ghost use Rattle.satp_base.specs.declared.name.Name.{Name};
-ghost use Rattle.satp_accounts.specs.Copies.{asset_list, hold_list};
-ghost use Rattle.satp_accounts.specs.Owners.{IsHeld};
+ghost use Rattle.satp_accounts.specs.Owners.{HoldAdds, HoldFits, IsHeld};
 
-use crate::owned::Owned;
-use satp_base::{Amount, Asset, Genesis, Hold, Memory, Name};
+use satp_base::{Amount, Genesis, Memory, Name};
+use satp_money::Owned;
 use std::alloc::Global;
 use std::collections::BTreeMap;
 
-/// Puts an asset, if there is one, behind the others.
-fn push_asset(assets: &mut Vec<Asset>, asset: Option<(Name, Amount)>) -> Result<(), Memory>
-    ensures { OnOk result (assets.new.items ≡ assets.old.items ++ asset_list asset) }
+/// Adds a holding, if there is one, to what its owner has.
+fn add_hold(
+    amounts: &mut BTreeMap<Owned, u64>,
+    hold: Option<(Name, Name, Amount)>,
+) -> Result<(), Memory>
+    requires fits { HoldFits (map.from_entries amounts.old.entries) hold }
+    ensures { OnOk result (HoldAdds (map.from_entries amounts.old.entries) hold (map.from_entries amounts.new.entries)) }
 {
-    if let Some((name, cap)) = asset {
-        assets.push(Asset { name, cap })?;
+    let Some((asset, owner, amount)) = hold else {
+        return Ok(());
+    };
+    let owned = Owned { asset, owner };
+    let before: u64 = amounts.get(&owned).copied().unwrap_or(0);
+    if amounts.insert(owned, before + amount.get()).is_err() {
+        return Err(Memory);
     }
     Ok(())
-}
-
-/// The assets of a genesis.
-pub(crate) fn copy_assets(alloc: Global, genesis: &Genesis) -> Result<Vec<Asset>, Memory>
-    ensures { IfOk result (λ assets. assets.items ≡ genesis.now.assets) }
-{
-    let mut assets = Vec::new(alloc);
-    for index in 0..Genesis::ASSETS {
-        push_asset(&mut assets, genesis.asset_at(index))?;
-    }
-    Ok(assets)
-}
-
-/// Puts a holding, if there is one, behind the others.
-fn push_hold(holds: &mut Vec<Hold>, hold: Option<(Name, Name, Amount)>) -> Result<(), Memory>
-    ensures { OnOk result (holds.new.items ≡ holds.old.items ++ hold_list hold) }
-{
-    if let Some((asset, owner, amount)) = hold {
-        holds.push(Hold {
-            asset,
-            owner,
-            amount,
-        })?;
-    }
-    Ok(())
-}
-
-/// The first holdings of a genesis.
-pub(crate) fn copy_holds(alloc: Global, genesis: &Genesis) -> Result<Vec<Hold>, Memory>
-    ensures items { IfOk result (λ holds. holds.items ≡ genesis.now.holds) }
-    ensures valid { OnOk result (IsGenesis genesis.now) }
-{
-    let mut holds = Vec::new(alloc);
-    for index in 0..Genesis::HOLDS {
-        push_hold(&mut holds, genesis.hold_at(index))?;
-    }
-    Ok(holds)
 }
 
 /// What each owner has at first.
-pub(crate) fn first_amounts(alloc: Global, holds: &[Hold]) -> Result<BTreeMap<Owned, u64>, Memory>
-    requires { (asset : Name) → held_among holds.now asset ≤ greatest_amount }
-    ensures { IfOk result (λ amounts. IsHeld holds.now (map.from_entries amounts.entries)) }
+pub(crate) fn first_amounts(
+    alloc: Global,
+    genesis: &Genesis,
+) -> Result<BTreeMap<Owned, u64>, Memory>
+    ensures amounts { IfOk result (λ amounts. IsHeld genesis.now.holds (map.from_entries amounts.entries)) }
+    ensures valid { OnOk result (IsGenesis genesis.now) }
 {
     let mut amounts = BTreeMap::new(alloc);
-    for hold in holds {
-        let owned = Owned {
-            asset: hold.asset,
-            owner: hold.owner,
-        };
-        let before: u64 = amounts.get(&owned).copied().unwrap_or(0);
-        if amounts.insert(owned, before + hold.amount.get()).is_err() {
-            return Err(Memory);
-        }
+    for index in 0..Genesis::HOLDS {
+        add_hold(&mut amounts, genesis.hold_at(index))?;
     }
     Ok(amounts)
 }

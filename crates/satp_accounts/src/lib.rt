@@ -3,8 +3,6 @@
 
 mod accounts;
 mod begin;
-mod owned;
-mod table;
 #[cfg(test)]
 mod tests;
 

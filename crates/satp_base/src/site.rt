@@ -9,6 +9,7 @@ ghost use Rattle.satp_base.specs.Acts.{ActsOn, Applies, Asks, FoundEvents, Found
 ghost use Rattle.satp_base.specs.declared.area.Event.{Event};
 ghost use Rattle.satp_base.specs.declared.area.Event.TheVariants.{Acted};
 ghost use Rattle.satp_base.specs.declared.ledger.LedgerCall.TheVariants.{Found, Raise, Act, Look};
+ghost use Rattle.satp_base.specs.declared.ledger.LedgerKind.{LedgerKind};
 
 use crate::device::{Device, Disk};
 use crate::genesis::Genesis;
@@ -77,7 +78,10 @@ pub trait LedgerCore: Drop {
     /// What the ledger was founded with, and its entries since.
     ghost book: { Self → Book };
 
+    /// Which kind of ledger it is.
     const KIND: LedgerKind;
+
+    ghost KIND: { LedgerKind };
 
     /// A ledger with the first holdings of a genesis and no entry.
     fn begin(alloc: Global, genesis: &Genesis) -> Result<Self, Memory>

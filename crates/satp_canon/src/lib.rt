@@ -3,6 +3,8 @@
 
 mod entries;
 mod fault;
+#[cfg(test)]
+mod kind_tests;
 mod link;
 mod members;
 mod messages;

@@ -1,5 +1,5 @@
-use crate::{CanonFault, MemberName, link_of, link_read, link_text, read, write};
-use satp_base::Link;
+use crate::{CanonFault, MemberName, read, write};
+use satp_base::{Memory, Text};
 use std::alloc::Global;
 use std::test::Fail;
 
@@ -230,39 +230,124 @@ fn other_kinds_are_refused(rt: HostRuntime) {
     }
 }
 
+// Spellings that JSON has and canonical texts do not have, or that not even JSON has.
 #[test]
-fn lengths_and_depths(rt: HostRuntime) {
-    assert!(rt; fault(rt.alloc(), &[b' '; 8192]) == CanonFault::NotJson);
-    assert!(rt; fault(rt.alloc(), &[b' '; 8193]) == CanonFault::Long { length: 8193 });
-    assert!(rt; fault(rt.alloc(), &[b'['; 200]) == CanonFault::NotJson);
-    assert!(rt; fault(rt.alloc(), b"\"\xff\"") == CanonFault::NotJson);
+fn other_spellings_are_refused(rt: HostRuntime) {
+    let table = [
+        (
+            r#"{"k\u0069nd":"rollback","previous":"AAAAAAAAAAAAAAAAAAAAAAAAAAAAAAAAAAAAAAAAAAA","receiver":"beta","sender":"alpha","sequence":3,"session":"alpha.1","version":1}"#,
+            canonical(3),
+        ),
+        (
+            r#"{"kind":"rollback","previous":"AAAAAAAAAAAAAAAAAAAAAAAAAAAAAAAAAAAAAAAAAAA","receiver":"beta","sender":"alpha","sequence":3,"session":"alpha.1","version":2,"version":1}"#,
+            canonical(154),
+        ),
+        (
+            r#"{"kind":"rollback","previous":"AAAAAAAAAAAAAAAAAAAAAAAAAAAAAAAAAAAAAAAAAAA","receiver":"beta","sender":"alpha","sequence":3,"session":"alpha.1","version":1,"version":2}"#,
+            value(MemberName::Version),
+        ),
+        (
+            r#"{"kind":"rollback","previous":"AAAAAAAAAAAAAAAAAAAAAAAAAAAAAAAAAAAAAAAAAAA","receiver":"beta","sender":"alpha","sequence":3,"session":"alpha.1","version":1.0}"#,
+            value(MemberName::Version),
+        ),
+        (
+            r#"{"kind":"rollback","previous":"AAAAAAAAAAAAAAAAAAAAAAAAAAAAAAAAAAAAAAAAAAA","receiver":"beta","sender":"alpha","sequence":3e0,"session":"alpha.1","version":1}"#,
+            value(MemberName::Sequence),
+        ),
+        (
+            r#"{"kind":"rollback","previous":"AAAAAAAAAAAAAAAAAAAAAAAAAAAAAAAAAAAAAAAAAAA","receiver":"beta","sender":"alpha","sequence":-3,"session":"alpha.1","version":1}"#,
+            value(MemberName::Sequence),
+        ),
+        (
+            r#"{"kind":"rollback","previous":"AAAAAAAAAAAAAAAAAAAAAAAAAAAAAAAAAAAAAAAAAAA","receiver":"beta","sender":"alpha","sequence":+3,"session":"alpha.1","version":1}"#,
+            CanonFault::NotJson,
+        ),
+        (
+            r#"{"kind":"rollback","previous":"AAAAAAAAAAAAAAAAAAAAAAAAAAAAAAAAAAAAAAAAAAA","receiver":"beta","sender":"alpha","sequence":03,"session":"alpha.1","version":1}"#,
+            CanonFault::NotJson,
+        ),
+        (
+            r#"{"kind":"rollback","previous":"AAAAAAAAAAAAAAAAAAAAAAAAAAAAAAAAAAAAAAAAAAA","receiver":"beta\u0000","sender":"alpha","sequence":3,"session":"alpha.1","version":1}"#,
+            value(MemberName::Receiver),
+        ),
+        (
+            r#"{"kind":"rollback","previous":"AAAAAAAAAAAAAAAAAAAAAAAAAAAAAAAAAAAAAAAAAAA","receiver":"beta\ud800","sender":"alpha","sequence":3,"session":"alpha.1","version":1}"#,
+            CanonFault::NotJson,
+        ),
+        ("{\"kind\":\"rollback\0\"}", CanonFault::NotJson),
+        (
+            "\u{feff}{\"kind\":\"rollback\",\"previous\":\"AAAAAAAAAAAAAAAAAAAAAAAAAAAAAAAAAAAAAAAAAAA\",\"receiver\":\"beta\",\"sender\":\"alpha\",\"sequence\":3,\"session\":\"alpha.1\",\"version\":1}",
+            CanonFault::NotJson,
+        ),
+    ];
+    for (text, wanted) in table {
+        assert_eq!(rt; fault(rt.alloc(), text.as_bytes()), wanted, "{text}");
+    }
 }
 
-// The SHA-256 of `abc` is that of FIPS 180-4.
+const ROLLBACK: &[u8] =
+    b"{\"kind\":\"rollback\",\"previous\":\"AAAAAAAAAAAAAAAAAAAAAAAAAAAAAAAAAAAAAAAAAAA\",\"receiver\":\"beta\",\"sender\":\"alpha\",\"sequence\":3,\"session\":\"alpha.1\",\"version\":1}";
+
+/// The text with so many of a byte behind it.
+fn followed(alloc: Global, text: &[u8], byte: u8, count: usize) -> Result<Text, Memory> {
+    let mut whole = Text::copy(alloc, text)?;
+    for _ in 0..count {
+        whole.append(&[byte])?;
+    }
+    Ok(whole)
+}
+
+// The text is 156 bytes long.
 #[test]
-fn links_are_hashes(rt: HostRuntime) -> Result<(), Fail> {
-    let link = link_of(b"abc");
+fn texts_have_8192_bytes_at_most(rt: HostRuntime) -> Result<(), Fail> {
+    assert!(rt; comes_back(rt.alloc(), ROLLBACK));
+    let longest = followed(rt.alloc(), ROLLBACK, b' ', 8036)?;
+    assert_eq!(rt; longest.bytes().len(), 8192);
+    assert_eq!(rt; fault(rt.alloc(), longest.bytes()), canonical(156));
+    let long = followed(rt.alloc(), ROLLBACK, b' ', 8037)?;
     assert_eq!(rt;
-        link,
-        Link([
-            0xba, 0x78, 0x16, 0xbf, 0x8f, 0x01, 0xcf, 0xea, 0x41, 0x41, 0x40, 0xde, 0x5d, 0xae,
-            0x22, 0x23, 0xb0, 0x03, 0x61, 0xa3, 0x96, 0x17, 0x7a, 0x9c, 0xb4, 0x10, 0xff, 0x61,
-            0xf2, 0x00, 0x15, 0xad,
-        ])
+        fault(rt.alloc(), long.bytes()),
+        CanonFault::Long { length: 8193 }
     );
-    let text = link_text(&link);
+    assert_eq!(rt; fault(rt.alloc(), &[b' '; 8192]), CanonFault::NotJson);
+    assert_eq!(rt; fault(rt.alloc(), b"\"\xff\""), CanonFault::NotJson);
+    Ok(())
+}
+
+/// An object whose member `x` is an empty array in so many others.
+fn nested(alloc: Global, depth: usize) -> Result<Text, Memory> {
+    let open = followed(alloc, b"{\"kind\":\"rollback\",\"x\":", b'[', depth)?;
+    let mut text = followed(alloc, open.bytes(), b']', depth)?;
+    text.append(b"}")?;
+    Ok(text)
+}
+
+#[test]
+fn nesting_of_200_is_refused(rt: HostRuntime) -> Result<(), Fail> {
+    let deep = nested(rt.alloc(), 200)?;
+    assert_eq!(rt; fault(rt.alloc(), deep.bytes()), CanonFault::NotJson);
+    let shallow = nested(rt.alloc(), 100)?;
     assert_eq!(rt;
-        text.as_slice(),
-        b"ungWv48Bz-pBQUDeXa4iI7ADYaOWF3qctBD_YfIAFa0".as_slice()
+        fault(rt.alloc(), shallow.bytes()),
+        member(MemberName::Previous)
     );
-    assert_eq!(rt; link_read(&text), Some(link));
-    assert_eq!(rt;
-        link_read(b"ungWv48Bz-pBQUDeXa4iI7ADYaOWF3qctBD_YfIAFa1"),
-        None
-    );
-    assert_eq!(rt;
-        link_read(b"ungWv48Bz-pBQUDeXa4iI7ADYaOWF3qctBD_YfIAFa0="),
-        None
-    );
+    Ok(())
+}
+
+/// A text with an entry of so many bytes.
+fn update(alloc: Global, length: usize) -> Result<Text, Memory> {
+    let mut text = followed(alloc, b"{\"entries\":[\"", b'a', length)?;
+    text.append(
+        b"\"],\"kind\":\"recover-update\",\"length\":11,\"receiver\":\"alpha\",\"sender\":\"beta\",\"session\":\"alpha.1\",\"version\":1}",
+    )?;
+    Ok(text)
+}
+
+#[test]
+fn entries_have_2048_bytes_at_most(rt: HostRuntime) -> Result<(), Fail> {
+    let longest = update(rt.alloc(), 2048)?;
+    assert!(rt; comes_back(rt.alloc(), longest.bytes()));
+    let long = update(rt.alloc(), 2049)?;
+    assert_eq!(rt; fault(rt.alloc(), long.bytes()), value(MemberName::Entries));
     Ok(())
 }

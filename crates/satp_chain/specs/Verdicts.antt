@@ -45,7 +45,7 @@ kept_verdict chain place text =
     else if bytes_eq text (text_at chain place) then Again place
     else Other place (link_at (texts_in chain) place)
 
--- the kinds of the chain with this one behind them are a tale, as is shown of it
+-- the kind may come behind the chain's last one; that this is so exactly where the kinds with it are a tale is a law
 unfoldable pub extends : Chained → Kind → Bool
 extends chain kind = comes_behind (last_of (tale_of chain)) kind
 

@@ -1,5 +1,5 @@
 -- What a device in memory counts of the calls on it, and which of them are to fail.
-use Rattle.std.specs.Prelude.{ℕ, ◌+◌, ◌-◌, ◌^◌, ◌==◌, ◌&&◌, min, nat_lt, Bool, if◌then◌else◌, List, [], ◌∷◌, ◌++◌}
+use Rattle.std.specs.Prelude.{ℕ, ◌+◌, ◌-◌, ◌^◌, ◌==◌, ◌&&◌, ◌||◌, min, nat_lt, Bool, false, if◌then◌else◌, List, [], ◌∷◌, ◌++◌}
 use Rattle.std.specs.List.{list_any}
 
 -- the calls, the failed ones, those that found no memory, and the numbers of the calls that are to fail
@@ -29,10 +29,30 @@ succeeded c = record c { count = up c.count }
 abbrev pub failed : Calling → Calling
 failed c = record c { count = up c.count; faults = up c.faults }
 
+-- a call is to fail: it comes behind a stop, or it was named
+abbrev pub is_refused : Bool → Calling → Bool
+is_refused stopped c = stopped || is_due c
+
 -- after a call that fails where it is to fail, and only there
+abbrev pub begun : Bool → Calling → Calling
+begun stopped c = if is_refused stopped c then failed c else succeeded c
+
+-- so it is where there are no stops
 abbrev pub stepped : Calling → Calling
-stepped c = if is_due c then failed c else succeeded c
+stepped c = begun false c
 
 -- a call that is counted already found no memory
 abbrev pub wanting : Calling → Calling
 wanting c = record c { faults = up c.faults; wants = up c.wants }
+
+-- after a call that fails in any case, for want of memory where it isn't to fail anyway
+abbrev pub missed : Bool → Calling → Calling
+missed refused c = if refused then failed c else wanting (succeeded c)
+
+-- a call that is counted already fails for another reason
+abbrev pub faulting : Calling → Calling
+faulting c = record c { faults = up c.faults }
+
+-- no call is to fail any more
+abbrev pub cleared : Calling → Calling
+cleared c = record c { named = [] }

@@ -4,3 +4,9 @@ pub mod Areas
 pub mod Disk
 pub mod Plain
 pub mod Steps
+pub mod Stopping
+pub mod Picks
+pub mod Sites
+pub mod EntryCodes
+pub mod OneLedger
+pub mod Halting

@@ -1,10 +1,10 @@
 -- Events without a `Left` keep the disk model.
 use Rattle.std.specs.Prelude.{◌≡◌, true, List, [], ◌∷◌, Some}
-use Rattle.std.proofs.Common.{sym, ap, subst}
+use Rattle.std.proofs.Common.{subst}
 use Rattle.satp_base.specs.declared.area.Area.{Area}
 use Rattle.satp_base.specs.declared.area.Event.{Event}
 use Rattle.satp_base.specs.declared.area.Event.TheVariants.{Wrote, Cut, Synced, Left, Founded, Acted}
-use Rattle.satp_base.specs.Trail.{Trail, Standing, KeepsFrom, KeepsModel, next, settled}
+use Rattle.satp_base.specs.Trail.{Standing, KeepsFrom, KeepsModel, next, settled}
 use Rattle.satp_base.specs.Calls.{Told}
 use Rattle.satp_memory.specs.Disk.{is_plain}
 

@@ -1,4 +1,4 @@
-ghost use Rattle.std.specs.Prelude.{◌≡◌, ◌≤◌, ℕ, List, [], length, take, IfOk, if◌then◌else◌};
+ghost use Rattle.std.specs.Prelude.{◌≡◌, ◌≤◌, ℕ, List, [], length, replicate, take, IfOk, if◌then◌else◌};
 ghost use Rattle.satp_base.specs.Trail.{same_area, overlaid};
 ghost use Rattle.satp_base.specs.declared.area.Area.{Area};
 ghost use Rattle.satp_memory.specs.Areas.{bytes_in};
@@ -23,6 +23,27 @@ impl Areas {
             journal_b: Vec::new(alloc),
             ledger: Vec::new(alloc),
         }
+    }
+
+    pub fn copy(&self, alloc: Global) -> Result<Areas, AllocError>
+        ensures { IfOk result (λ areas. (a : Area) → bytes_in areas a ≡ bytes_in self.now a) }
+    {
+        Ok(Areas {
+            journal_a: Vec::from_slice(alloc, &self.journal_a)?,
+            journal_b: Vec::from_slice(alloc, &self.journal_b)?,
+            ledger: Vec::from_slice(alloc, &self.ledger)?,
+        })
+    }
+
+    /// As many zeros as there are bytes.
+    pub fn zeros(&self, alloc: Global) -> Result<Areas, AllocError>
+        ensures { IfOk result (λ areas. (a : Area) → bytes_in areas a ≡ replicate (length (bytes_in self.now a)) 0) }
+    {
+        Ok(Areas {
+            journal_a: repeated(alloc, 0, self.journal_a.len())?,
+            journal_b: repeated(alloc, 0, self.journal_b.len())?,
+            ledger: repeated(alloc, 0, self.ledger.len())?,
+        })
     }
 
     /// The bytes of one area.
@@ -59,6 +80,13 @@ pub fn overlay(alloc: Global, old: &[u8], at: usize, bytes: &[u8]) -> Result<Vec
         next.extend_from_slice(&old[at + bytes.len()..])?;
     }
     Ok(next)
+}
+
+/// One byte, so many times.
+pub fn repeated(alloc: Global, byte: u8, count: usize) -> Result<Vec<u8>, AllocError>
+    ensures { IfOk result (λ v. v.items ≡ replicate count byte) }
+{
+    vec![in alloc; byte; count]
 }
 
 /// The first bytes.

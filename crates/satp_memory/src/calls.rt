@@ -1,9 +1,10 @@
 ghost use Rattle.std.specs.Prelude.{◌≡◌, ◌≤◌, true, OnOk, OnErr};
 ghost use Rattle.satp_base.specs.Calls.{risen};
 ghost use Rattle.satp_base.specs.Streams.{Rose};
-ghost use Rattle.satp_memory.specs.Calling.{fresh, is_due, naming, stepped, wanting};
+ghost use Rattle.satp_memory.specs.Calling.{begun, cleared, faulting, fresh, is_due, is_refused, naming, wanting};
 
-use satp_base::Memory;
+use crate::operate::Halt;
+use satp_base::{ActFault, Memory};
 use std::alloc::Global;
 use std::marker::Model;
 
@@ -25,6 +26,8 @@ impl Model for Calls {
 }
 
 impl Calls {
+    ghost use Rattle.satp_memory.specs.Halting.{fault_of, halted};
+
     pub fn new(alloc: Global) -> Calls
         ensures { result ≡ fresh }
     {
@@ -45,20 +48,33 @@ impl Calls {
         Ok(())
     }
 
-    /// Counts a call, and answers whether it is to fail.
-    pub fn begin(&mut self) -> bool
-        ensures due { result ≡ is_due self.old }
-        ensures counted { self.new ≡ stepped self.old }
+    /// Drops the calls that are to fail and haven't come.
+    pub fn clear(&mut self)
+        ensures { self.new ≡ cleared self.old }
+    {
+        self.named.clear();
+    }
+
+    /// Counts a call, and answers whether it is to fail: behind a stop, or where it was named.
+    pub fn begin(&mut self, stopped: bool) -> bool
+        ensures refused { result ≡ is_refused stopped self.old }
+        ensures counted { self.new ≡ begun stopped self.old }
         ensures told { self.new.count ≡ risen self.old.count 1 }
         ensures rose { result ≡ true → Rose self.old.faults self.new.faults }
         ensures later { self.old.faults ≤ self.new.faults }
     {
-        let due = self.count < u64::MAX && self.named.contains(&(self.count + 1));
+        let refused = stopped || self.is_due();
         self.count = self.count.saturating_add(1);
-        if due {
+        if refused {
             self.faults = self.faults.saturating_add(1);
         }
-        due
+        refused
+    }
+
+    fn is_due(&self) -> bool
+        ensures { result ≡ is_due self.now }
+    {
+        self.count < u64::MAX && self.named.contains(&(self.count + 1))
     }
 
     /// Counts a fault of a call that found no memory.
@@ -69,6 +85,38 @@ impl Calls {
     {
         self.faults = self.faults.saturating_add(1);
         self.wants = self.wants.saturating_add(1);
+    }
+
+    /// Counts a fault of a call that is counted already.
+    pub fn fault(&mut self)
+        ensures counted { self.new ≡ faulting self.old }
+        ensures rose { Rose self.old.faults self.new.faults }
+        ensures later { self.old.faults ≤ self.new.faults }
+    {
+        self.faults = self.faults.saturating_add(1);
+    }
+
+    /// Counts why an operation isn't answered, and says it as a ledger does.
+    pub fn halt(&mut self, halt: Halt) -> ActFault
+        ensures fault { result ≡ fault_of halt }
+        ensures counted { self.new ≡ halted halt self.old }
+        ensures rose { Rose self.old.faults self.new.faults }
+        ensures later { self.old.faults ≤ self.new.faults }
+    {
+        match halt {
+            Halt::OutOfOrder { entry } => {
+                self.fault();
+                ActFault::OutOfOrder { entry }
+            }
+            Halt::Unfounded => {
+                self.fault();
+                ActFault::Failed
+            }
+            Halt::Memory => {
+                self.want();
+                ActFault::Failed
+            }
+        }
     }
 
     pub fn count(&self) -> u64

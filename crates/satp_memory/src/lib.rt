@@ -5,11 +5,16 @@ mod areas;
 mod calls;
 mod copy;
 mod disk;
+mod operate;
+mod pick;
 mod sink;
+mod site;
 mod source;
+mod stop;
 #[cfg(test)]
 mod tests;
 
 pub use disk::MemDisk;
 pub use sink::MemSink;
+pub use site::MemSite;
 pub use source::MemSource;

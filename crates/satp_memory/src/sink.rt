@@ -77,7 +77,7 @@ impl Sink for MemSink {
         ensures done { OnOk result ((is_due self.old.calls ≡ false) × (self.new.calls ≡ succeeded self.old.calls)) }
         ensures due { OnErr result (((is_due self.old.calls ≡ true) × (self.new.calls ≡ stepped self.old.calls)) ⊎ (self.new.calls ≡ wanting (succeeded self.old.calls))) }
     {
-        if self.calls.begin() {
+        if self.calls.begin(false) {
             return Err(SinkFault);
         }
         match self.bytes.extend_from_slice(piece) {

@@ -75,7 +75,7 @@ impl Source for MemSource {
         ensures due { IsErr result ↔ IsTrue (is_due self.old.calls) }
         ensures calls { self.new.calls ≡ stepped self.old.calls }
     {
-        if self.calls.begin() {
+        if self.calls.begin(false) {
             return Err(SourceFault);
         }
         let rest = &self.bytes[self.place..];

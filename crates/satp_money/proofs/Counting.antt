@@ -67,3 +67,15 @@ module _ (is : Entry → Bool) (test : Terms → Bool) (none : is Absent ≡ fal
   -- the sum after an operation moved an entry
   pub sum_moved : (m : Entries) (op : LedgerOp) (s : SessionId) (t : Terms) → sum_entries part (moved_entries m op s t) + part (standing m s t) ≡ sum_entries part m + part (reached m op s t)
   sum_moved m op s t = ap (λ x. sum_entries part (moved_entries m op s t) + x) (sym (before_standing (get m s) t)) ∙ entries_sum part m s (reached m op s t)
+
+-- ---- sums by how far an entry has come
+
+module _ (w : Entry → ℕ) (none : w Absent ≡ 0) where
+  before_entry : (o : Option LedgerEntry) → before (λ k. w k.entry) o ≡ w (option_map_or (λ (k : LedgerEntry). k.entry) o Absent)
+  unfolding before
+  before_entry None = sym none
+  before_entry (Some k) = refl
+
+  -- the sum after an entry is put
+  pub sum_put_entry : (m : Entries) (s : SessionId) (k : LedgerEntry) → sum_entries (λ x. w x.entry) (insert m s k) + w (entry_of m s) ≡ sum_entries (λ x. w x.entry) m + w k.entry
+  sum_put_entry m s k = ap (λ x. sum_entries (λ y. w y.entry) (insert m s k) + x) (sym (before_entry (get m s))) ∙ entries_sum (λ y. w y.entry) m s k

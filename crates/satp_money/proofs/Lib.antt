@@ -2,3 +2,9 @@ pub mod Sums
 pub mod Counting
 pub mod Moves
 pub mod Maps
+pub mod Steps
+pub mod Running
+pub mod Begins
+pub mod RuleLaw
+pub mod StepLaw
+pub mod TotalsLaw

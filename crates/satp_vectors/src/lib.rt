@@ -1,5 +1,11 @@
-//! Tests that cross crates: each promise that rests on values from outside, run over devices in memory.
+//! Tests that cross crates or rest on values from outside: published vectors, and promises run over devices in memory.
 #![tactic(auto)]
 
 #[cfg(test)]
+mod genesis_tests;
+#[cfg(test)]
+mod hash_tests;
+#[cfg(test)]
 mod journal_tests;
+#[cfg(test)]
+mod jws_tests;

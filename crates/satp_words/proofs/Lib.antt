@@ -1,4 +1,3 @@
 pub mod Texts
 pub mod KeyTexts
 pub mod Listings
-mod Examples

@@ -3,10 +3,12 @@
 
 mod command;
 mod keys;
+mod laws;
 mod options;
 mod reader;
 #[cfg(test)]
 mod tests;
 
 pub use command::{Command, WordsFault};
+pub use laws::law_examples;
 pub use reader::read;

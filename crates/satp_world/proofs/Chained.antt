@@ -1,11 +1,10 @@
 -- The chains of both sides of a session: texts of parts, of which one list is the other or longer by one.
-use Rattle.std.proofs.Common.{◌≡◌, ℕ, zero, suc, ◌+◌, ◌-◌, ◌<◌, ◌≤◌, Bool, true, false, List, [], ◌∷◌, ◌++◌, map, length, Option, Some, None, refl, sym, ap, subst, ◌∙◌, arith, ◌⊎◌, inl, inr}
-use Rattle.std.specs.Prelude.{slice_get, ⊤}
+use Rattle.std.proofs.Common.{◌≡◌, ℕ, zero, suc, ◌+◌, ◌≤◌, List, [], ◌∷◌, ◌++◌, map, length, Option, Some, None, refl, sym, ap, subst, ◌∙◌, arith, inl, inr}
+use Rattle.std.specs.Prelude.{slice_get}
 use Rattle.std.specs.List.{AllByRecursion}
-use Rattle.std.proofs.lemmas.List.{map-append, length_push}
+use Rattle.std.proofs.lemmas.List.{length_push}
 use Rattle.satp_base.specs.declared.name.Name.{Name}
 use Rattle.satp_base.specs.declared.session.SessionId.{SessionId}
-use Rattle.satp_base.specs.declared.message.Kind.{Kind}
 use Rattle.satp_base.specs.declared.message.Role.{Role}
 use Rattle.satp_base.specs.declared.message.Role.TheVariants.{Origin, Recipient}
 use Rattle.satp_base.specs.declared.message.Link.{Link}
@@ -16,10 +15,10 @@ use Rattle.satp_base.specs.declared.message.Body.TheVariants.{Chain}
 use Rattle.satp_base.specs.declared.message.Message.{Message}
 use Rattle.satp_base.specs.declared.view.View.{View}
 use Rattle.satp_base.specs.Canonical.{part_kind}
-use Rattle.satp_base.specs.Forms.{IsLink, IsMessage, IsPart, IsPlace}
+use Rattle.satp_base.specs.Forms.{IsLink, IsMessage, IsPart}
 use Rattle.satp_base.specs.Signatures.{own}
-use Rattle.satp_base.specs.Chains.{last_link, link_at, link_of, message_at, next_text, role_at, texts_from, texts_of, zero_link}
-use Rattle.satp_base.specs.Tales.{IsTale, other}
+use Rattle.satp_base.specs.Chains.{last_link, link_of, message_at, next_text, role_at, texts_from, texts_of, zero_link}
+use Rattle.satp_base.specs.Tales.{other}
 use Rattle.satp_base.proofs.ChainLemmas.{length-texts, link_at_formed, link_formed, texts_appended, zero_formed}
 use Rattle.satp_base.proofs.SignatureLemmas.{own_shows}
 use Rattle.satp_world.specs.Sessions.{tale_of}

@@ -1,6 +1,5 @@
 -- What one record more makes of a side's chain of a session.
-use Rattle.std.proofs.Common.{◌≡◌, ℕ, ◌+◌, ◌≤◌, Bool, true, false, List, [], ◌∷◌, ◌++◌, map, length, Option, Some, None, refl, sym, ap, subst, ◌∙◌, arith}
-use Rattle.std.specs.List.{AllByRecursion}
+use Rattle.std.proofs.Common.{◌≡◌, ℕ, false, List, [], ◌∷◌, ◌++◌, Some, refl, sym, ap, ◌∙◌}
 use Rattle.std.proofs.lemmas.List.{append-nil, map-append}
 use Rattle.satp_base.specs.declared.name.Name.{Name}
 use Rattle.satp_base.specs.declared.session.SessionId.{SessionId}
@@ -14,7 +13,7 @@ use Rattle.satp_base.specs.declared.record.Rec.TheVariants.{Began, Took, Made, D
 use Rattle.satp_base.specs.declared.view.View.{View}
 use Rattle.satp_base.specs.Canonical.{part_kind}
 use Rattle.satp_base.specs.Forms.{IsPart}
-use Rattle.satp_base.specs.Chains.{next_text, texts_from, texts_of}
+use Rattle.satp_base.specs.Chains.{next_text, texts_from}
 use Rattle.satp_base.specs.Views.{begin, push}
 use Rattle.satp_base.proofs.ChainLemmas.{texts_appended}
 use Rattle.satp_world.specs.Sessions.{tale_of}
@@ -31,11 +30,11 @@ pub data Carries (k : Kind) : Rec → Type 0 where
 some_is : (v w : View) → Some v ≡ Some w → v ≡ w
 some_is v w e = cc e
 
-pushed-tale : (v : View) (k : Kind) (r : Rec) → Carries k r → (push v r).tale ≡ v.tale ++ k ∷ []
+pub pushed-tale : (v : View) (k : Kind) (r : Rec) → Carries k r → (push v r).tale ≡ v.tale ++ k ∷ []
 pushed-tale v k _ As_taken = refl
 pushed-tale v k _ As_made = refl
 
-one-text : (s : SessionId) (side : Side) (k : Kind) (r : Rec) (t : List ℕ) → Carries k r → chain_in s (with_record side s r t).records ≡ chain_in s side.records ++ t ∷ []
+pub one-text : (s : SessionId) (side : Side) (k : Kind) (r : Rec) (t : List ℕ) → Carries k r → chain_in s (with_record side s r t).records ≡ chain_in s side.records ++ t ∷ []
 one-text s side k _ t As_taken = chain-here s side.records (record { session = s; rec = Took k; text = t }) (session-self s)
 one-text s side k _ t As_made = chain-here s side.records (record { session = s; rec = Made k; text = t }) (session-self s)
 
@@ -54,7 +53,7 @@ half-more s recipient key side parts v p r h e f c =
           (rest ++ p ∷ [], ap (λ ps. ps ++ p ∷ []) first ∙ ap (λ (t : Terms). Proposal t ∷ (rest ++ p ∷ [])) (sym (push-head v r).1 ∙ ap (λ (x : View). x.terms) same)));
     }
 
-note-tale : (v : View) (r : Rec) → IsNote r → (push v r).tale ≡ v.tale
+pub note-tale : (v : View) (r : Rec) → IsNote r → (push v r).tale ≡ v.tale
 note-tale v (Began role terms) n = refl
 note-tale v (Took k) n = absurd n
 note-tale v (Made k) n = absurd n
@@ -62,7 +61,7 @@ note-tale v (Did op) n = refl
 note-tale v (Chose way) n = refl
 note-tale v Rescue n = refl
 
-no-text : (s : SessionId) (side : Side) (r : Rec) (t : List ℕ) → IsNote r → chain_in s (with_record side s r t).records ≡ chain_in s side.records
+pub no-text : (s : SessionId) (side : Side) (r : Rec) (t : List ℕ) → IsNote r → chain_in s (with_record side s r t).records ≡ chain_in s side.records
 no-text s side (Began role terms) t n = absurd n
 no-text s side (Took k) t n = absurd n
 no-text s side (Made k) t n = absurd n

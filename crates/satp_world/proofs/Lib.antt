@@ -18,4 +18,15 @@ pub mod RuleMoves
 pub mod Chained
 pub mod Growth
 pub mod PairLaw
+pub mod EntryLaw
+pub mod FreshTest
+pub mod FreshCheck
+pub mod ReadOff
+pub mod TextSizes
+pub mod Runs
+pub mod Endings
+pub mod Amounts
+pub mod Books
+pub mod TotalLaw
+pub mod Limits
 pub mod WorldLaw

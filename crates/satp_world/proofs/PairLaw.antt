@@ -1,13 +1,10 @@
 -- One session on two sides, each seen as the mover: what a move makes of it.
-use Rattle.std.proofs.Common.{◌≡◌, ◌≢◌, ℕ, ◌+◌, ◌<◌, ◌≤◌, Bool, true, false, cond, List, [], ◌∷◌, ◌++◌, map, length, Option, Some, None, refl, sym, ap, subst, ◌∙◌, arith, ◌⊎◌, inl, inr}
+use Rattle.std.proofs.Common.{◌≡◌, ℕ, ◌+◌, ◌≤◌, false, List, [], ◌∷◌, ◌++◌, map, length, Option, Some, None, refl, sym, ap, subst, ◌∙◌, arith, inl, inr}
 use Rattle.std.specs.Prelude.{slice_get}
-use Rattle.std.specs.Option.{option_map_or}
-use Rattle.std.specs.FinMap.{get, get-insert}
 use Rattle.std.proofs.lemmas.List.{length_push, length-map, map-append}
 use Rattle.satp_base.specs.declared.name.Name.{Name}
 use Rattle.satp_base.specs.declared.session.SessionId.{SessionId}
 use Rattle.satp_base.specs.declared.message.Kind.{Kind}
-use Rattle.satp_base.specs.declared.message.Kind.TheVariants.{TransferProposal}
 use Rattle.satp_base.specs.declared.message.Role.{Role}
 use Rattle.satp_base.specs.declared.message.Role.TheVariants.{Origin, Recipient}
 use Rattle.satp_base.specs.declared.message.Terms.{Terms}
@@ -17,7 +14,7 @@ use Rattle.satp_base.specs.declared.ledger.LedgerOp.{LedgerOp}
 use Rattle.satp_base.specs.declared.ledger.Entry.{Entry}
 use Rattle.satp_base.specs.declared.ledger.Answer.{Answer}
 use Rattle.satp_base.specs.declared.record.Rec.{Rec}
-use Rattle.satp_base.specs.declared.record.Rec.TheVariants.{Began, Took, Made, Did, Chose, Rescue}
+use Rattle.satp_base.specs.declared.record.Rec.TheVariants.{Began, Took, Made}
 use Rattle.satp_base.specs.declared.record.Next.TheVariants.{Act}
 use Rattle.satp_base.specs.declared.view.View.{View}
 use Rattle.satp_base.specs.Canonical.{part_kind}
@@ -25,16 +22,16 @@ use Rattle.satp_base.specs.Forms.{IsMessage, IsPart}
 use Rattle.satp_base.specs.Money.{Book}
 use Rattle.satp_base.specs.LedgerRule.{LedgerRule, entry_of}
 use Rattle.satp_base.specs.Chains.{last_link, message_at, next_text, role_at, texts_from, texts_of}
-use Rattle.satp_base.specs.Tales.{IsTale, maker, other}
+use Rattle.satp_base.specs.Tales.{IsTale, other}
 use Rattle.satp_base.specs.Views.{begin, push}
 use Rattle.satp_base.specs.Roles.{RoleRule, next_of}
 use Rattle.satp_base.proofs.TaleTable.{tale-short}
-use Rattle.satp_world.specs.Sessions.{Half, half, GoesOn, Moves, Tied, Session, SessionMoves, SessionStands, deal_of, tale_of}
+use Rattle.satp_world.specs.Sessions.{Half, half, Moves, Tied, Session, SessionMoves, SessionStands, deal_of, tale_of}
 use Rattle.satp_world.specs.Sessions.Tied.{Same as Same_tales, Origin_ahead, Recipient_ahead}
 use Rattle.satp_world.specs.Sessions.Moves.{Takes, Acts}
 use Rattle.satp_world.specs.Sessions.SessionMoves.{Proposes, Accepts, Origin_moves, Recipient_moves}
-use Rattle.satp_world.specs.Worlds.{Side, Stored, DealGoesOn, IsNote, LedgerFits, chain_in, is_session, records_of, view_in, with_record}
-use Rattle.satp_world.proofs.Records.{session-self, view-here, view-first, view-none, view-apart, chain-none}
+use Rattle.satp_world.specs.Worlds.{Side, DealGoesOn, IsNote, LedgerFits, chain_in, is_session, records_of, view_in, with_record}
+use Rattle.satp_world.proofs.Records.{session-self, view-here, view-first, view-none, view-apart}
 use Rattle.satp_world.proofs.RuleMoves.{agrees-by, note-moves, made-moves, took-rule, made-rule, entry-apart}
 use Rattle.satp_world.proofs.Places.{maker-at}
 use Rattle.satp_world.proofs.Chained.{HalfChain, TiedParts, flip-tied, taken, long, next-formed}

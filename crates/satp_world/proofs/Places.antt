@@ -1,5 +1,5 @@
 -- Odd places of a tale are the origin's, even ones the recipient's.
-use Rattle.std.proofs.Common.{◌≡◌, ℕ, ◌+◌, Bool, true, false, List, [], ◌∷◌, ◌++◌, length, Option, Some, refl}
+use Rattle.std.proofs.Common.{◌≡◌, ◌+◌, Bool, true, List, [], ◌∷◌, ◌++◌, length, Some, refl}
 use Rattle.satp_base.specs.declared.message.Kind.{Kind}
 use Rattle.satp_base.specs.Tales.{IsTale, is_role, last_of, maker}
 use Rattle.satp_base.specs.Chains.{role_at}

@@ -1,6 +1,6 @@
 -- A list of records with one record more: what it says of its session, and of the others.
-use Rattle.std.proofs.Common.{◌≡◌, ℕ, zero, suc, ◌+◌, ◌<◌, Bool, true, false, cond, List, [], ◌∷◌, ◌++◌, map, length, Option, Some, None, refl, sym, ap, subst, ◌∙◌, arith, ◌⊎◌, inl, inr}
-use Rattle.std.specs.Prelude.{filter, slice_get}
+use Rattle.std.proofs.Common.{◌≡◌, ℕ, zero, suc, ◌<◌, true, false, cond, List, [], ◌∷◌, ◌++◌, map, length, Some, None, refl, ap, ◌∙◌, arith, ◌⊎◌, inl, inr}
+use Rattle.std.specs.Prelude.{slice_get}
 use Rattle.std.specs.List.{flat_map}
 use Rattle.std.proofs.lemmas.List.{append-nil, map-append}
 use Rattle.std.proofs.lemmas.List.Elements.{filter-append}
@@ -12,13 +12,11 @@ use Rattle.std.specs.declared.cmp.Ordering.TheVariants.{Less, Equal, Greater}
 use Rattle.satp_base.specs.Keys.{session_cmp}
 use Rattle.satp_base.specs.Views.{begin, push, view_from, view_of}
 use Rattle.satp_base.specs.declared.session.SessionId.{SessionId}
-use Rattle.satp_base.specs.declared.message.Role.{Role}
-use Rattle.satp_base.specs.declared.message.Terms.{Terms}
 use Rattle.satp_base.specs.declared.record.Rec.{Rec}
 use Rattle.satp_base.specs.declared.record.Rec.TheVariants.{Began, Took, Made, Did, Chose, Rescue}
 use Rattle.satp_base.specs.declared.view.View.{View}
 use Rattle.satp_base.proofs.SessionLemmas.{exact_sessions, sessions_total}
-use Rattle.satp_world.specs.Worlds.{Text, Stored, chain_in, is_session, records_of, texts_in_record, view_in}
+use Rattle.satp_world.specs.Worlds.{Stored, chain_in, is_session, records_of, texts_in_record, view_in}
 
 -- ---- equal sessions
 

@@ -1,5 +1,5 @@
 -- What the role's rule allows is a move of a session.
-use Rattle.std.proofs.Common.{◌≡◌, ◌≢◌, ℕ, Bool, true, false, cond, List, [], ◌∷◌, ◌++◌, Option, Some, None, refl, sym, ap, subst, ◌∙◌, ◌⊎◌, inl, inr}
+use Rattle.std.proofs.Common.{◌≡◌, ◌≢◌, Bool, true, false, cond, List, [], ◌∷◌, ◌++◌, Some, refl, sym, ap, subst, ◌∙◌, inl, inr}
 use Rattle.std.specs.FinMap.{get, get-insert}
 use Rattle.std.specs.Option.{option_map_or}
 use Rattle.satp_base.specs.declared.ledger.LedgerEntry.{LedgerEntry}
@@ -11,31 +11,29 @@ use Rattle.satp_base.specs.declared.session.SessionId.{SessionId}
 use Rattle.satp_base.specs.declared.ledger.LedgerOp.{LedgerOp}
 use Rattle.satp_base.specs.declared.ledger.LedgerOp.TheVariants.{Lock, Burn, Mint, Assign, Release}
 use Rattle.satp_base.specs.declared.ledger.Entry.{Entry}
-use Rattle.satp_base.specs.declared.ledger.Entry.TheVariants.{Absent, Locked, Burnt, Minted, Assigned, Released}
+use Rattle.satp_base.specs.declared.ledger.Entry.TheVariants.{Absent, Locked, Minted}
 use Rattle.satp_base.specs.declared.ledger.Answer.{Answer}
-use Rattle.satp_base.specs.declared.record.Way.TheVariants.{Commit, Back}
-use Rattle.satp_base.specs.declared.record.Cause.TheVariants.{LockRefused, UnknownAsset, MintCapped, LedgerTaken}
 use Rattle.satp_base.specs.declared.record.Rec.{Rec}
 use Rattle.satp_base.specs.declared.record.Rec.TheVariants.{Began, Took, Made, Did, Chose, Rescue}
 use Rattle.satp_base.specs.declared.record.Next.{Next}
-use Rattle.satp_base.specs.declared.record.Next.TheVariants.{Append, Act, Wait, Ended}
+use Rattle.satp_base.specs.declared.record.Next.TheVariants.{Append}
 use Rattle.satp_base.specs.declared.view.View.{View}
 use Rattle.satp_base.specs.Money.{Book}
 use Rattle.satp_base.specs.LedgerRule.{LedgerRule, entry_of, leads, moved, result_of, terms_of}
 use Rattle.satp_base.specs.Tales.{IsTale, maker, makes, other}
 use Rattle.satp_base.specs.Views.{push}
-use Rattle.satp_base.specs.Roles.{RoleRule, next_of, After, Other}
+use Rattle.satp_base.specs.Roles.{RoleRule, next_of, After}
 use Rattle.satp_base.specs.Roles.RoleRule.{Due, Answered, Free}
 use Rattle.satp_base.proofs.RoleLemmas.{role-gives, after-shape, makes-is}
 use Rattle.satp_base.proofs.SessionLemmas.{sessions_total}
-use Rattle.satp_world.specs.Sessions.{Half, Moves, Agrees, after_record, can_do}
-use Rattle.satp_world.specs.Sessions.Moves.{Appends, Learns, Takes, Decides, Acts}
+use Rattle.satp_world.specs.Sessions.{Moves, Agrees, can_do}
+use Rattle.satp_world.specs.Sessions.Moves.{Appends, Learns, Decides}
 use Rattle.satp_world.specs.Worlds.{IsNote, LedgerFits, is_session}
 use Rattle.satp_world.proofs.Records.{session-self}
 
 -- ---- the ledger's rule, at the entry of the session
 
-entry-moved : (b : Book) (op : LedgerOp) (s : SessionId) (terms : Terms) → entry_of (moved b op s terms).entries s ≡ result_of op
+pub entry-moved : (b : Book) (op : LedgerOp) (s : SessionId) (terms : Terms) → entry_of (moved b op s terms).entries s ≡ result_of op
 entry-moved b op s terms = ap (λ o. option_map_or (λ (k : LedgerEntry). k.entry) o Absent) (get-insert sessions_total b.entries s (record { entry = result_of op; terms = terms_of b.entries s terms }) s ∙ ap (λ t. cond t (Some (record { entry = result_of op; terms = terms_of b.entries s terms })) (get b.entries s)) (session-self s))
 
 does_own : (op : LedgerOp) → can_do op (result_of op) ≡ true

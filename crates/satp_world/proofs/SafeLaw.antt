@@ -4,16 +4,19 @@ use Rattle.satp_base.specs.declared.message.Kind.{Kind}
 use Rattle.satp_base.specs.declared.message.Kind.TheVariants.{CommitReady}
 use Rattle.satp_base.specs.declared.ledger.Entry.{Entry}
 use Rattle.satp_base.specs.declared.ledger.Entry.TheVariants.{Absent, Locked, Burnt, Minted, Assigned, Released}
+use Rattle.satp_base.specs.declared.record.Way.{Way}
+use Rattle.satp_base.specs.declared.record.Way.TheVariants.{Commit, Back}
 use Rattle.satp_base.specs.declared.view.View.{View}
 use Rattle.satp_base.specs.Tales.{has, is_whole, is_committed, is_rolled_back}
-use Rattle.satp_base.specs.Roles.{both, either, negate}
+use Rattle.satp_base.specs.Roles.{both, either, negate, is_back}
 use Rattle.satp_base.proofs.Finite.{implies-use}
 use Rattle.satp_base.proofs.TaleTable.{tale_eq, tale_eq-refl}
-use Rattle.satp_world.specs.Sessions.{Half, half, Stands, StandsAt, Session, SessionStands, IsSafe, IsSettled, Reaches, LawSessions, entry_is}
+use Rattle.satp_world.specs.Deal.{Decision}
+use Rattle.satp_world.specs.Sessions.{Half, half, Stands, StandsAt, Session, SessionStands, IsSafe, IsSettled, Reaches, LawSessions, decision_of, entry_is}
 use Rattle.satp_world.specs.Sessions.Reaches.{Begins, Goes}
 use Rattle.satp_world.proofs.Logic.{both-left, both-right, both-make, negate-use, either-split}
-use Rattle.satp_world.proofs.DealSteps.{entry-is}
-use Rattle.satp_world.proofs.SafeTest.{safe_test, free_test, burnt_test, settled_test, settled_entries}
+use Rattle.satp_world.proofs.DealSteps.{decision-is, entry-is}
+use Rattle.satp_world.proofs.SafeTest.{safe_test, first_tests, free_test, burnt_test, settled_test, settled_entries, assigned_test, commit_test, back_test, ready_test}
 use Rattle.satp_world.proofs.Safety.{pair-tested}
 use Rattle.satp_world.proofs.SafeCheck.{safe_ok}
 use Rattle.satp_world.proofs.SessionLaw.{law_step}
@@ -22,13 +25,29 @@ record Tested (a b : Half) : Type 0 where
   free : free_test a b ≡ true
   burnt : burnt_test a b ≡ true
   settled : settled_test a b ≡ true
+  assigned : assigned_test a b ≡ true
+  commit : commit_test a b ≡ true
+  back : back_test a b ≡ true
+  ready : ready_test a b ≡ true
 
 tested : (a b : Half) → Stands a b → Tested a b
 unfolding safe_test
 tested a b s =
     let h = pair-tested safe_test safe_ok a b s in
-    let r = both-right (free_test a b) _ h in
-    record { free = both-left (free_test a b) _ h; burnt = both-left (burnt_test a b) _ r; settled = both-right (burnt_test a b) _ r }
+    let f = both-left (first_tests a b) _ h in
+    let m = both-right (first_tests a b) _ h in
+    let r = both-right (free_test a b) _ f in
+    let n = both-right (assigned_test a b) _ m in
+    let z = both-right (commit_test a b) _ n in
+    record {
+      free = both-left (free_test a b) _ f;
+      burnt = both-left (burnt_test a b) _ r;
+      settled = both-right (burnt_test a b) _ r;
+      assigned = both-left (assigned_test a b) _ m;
+      commit = both-left (commit_test a b) _ n;
+      back = both-left (back_test a b) _ z;
+      ready = both-right (back_test a b) _ z;
+    }
 
 entry-refl : (e : Entry) → entry_is e e ≡ true
 entry-refl = elim [ Absent ↦ refl | Locked ↦ refl | Burnt ↦ refl | Minted ↦ refl | Assigned ↦ refl | Released ↦ refl ]
@@ -68,12 +87,29 @@ settled_by a b ea eb w h =
       | inr p ↦ (let q = both-right (negate (is_committed a.tale)) _ p in inr (rolled_back a.tale w (both-left (negate (is_committed a.tale)) _ p), entry-is ea Released (both-left (entry_is ea Released) _ q), entry-either eb Absent Released (both-right (entry_is ea Released) _ q)))
     ]
 
+released-test : (e f : Entry) → (e ≡ Released) ⊎ (f ≡ Released) → either (entry_is e Released) (entry_is f Released) ≡ true
+released-test e f (inl p) = either-left _ _ (entry-same e Released p)
+released-test e f (inr p) = either-right _ _ (entry-same f Released p)
+
+-- a way back that the origin alone has chosen
+back-alone : (w : Option Way) → is_back w ≡ true → decision_of w None ≡ Decision.Back
+back-alone None h = absurd (cc h)
+back-alone (Some Commit) h = absurd (cc h)
+back-alone (Some (Back cause)) h = refl
+
 safe_pair : (a b : View) (ea eb : Entry) → Stands (half a ea) (half b eb) → IsSafe (both_sides a b ea eb)
 safe_pair a b ea eb s =
     let t = tested (half a ea) (half b eb) s in
     record {
       never_free_on_both = λ p. let n = negate-use _ t.free in let y = both-make _ _ (free-at-origin ea p.0) (entry-same eb Assigned p.1) in cc (n, y);
       burnt_behind_the_mint = λ e. let h = implies-use _ _ t.burnt (entry-same ea Burnt e) in (both-left b.done.mint _ h, both-right b.done.mint _ h);
+      assigned_behind_the_burn = λ e. entry-is ea Burnt (implies-use _ _ t.assigned (entry-same eb Assigned e));
+      burnt_by_a_commit = λ e. decision-is _ _ (implies-use _ _ t.commit (entry-same ea Burnt e));
+      released_by_a_back = λ e. decision-is _ _ (implies-use _ _ t.back (released-test ea eb e));
+      committed_when_ready = λ e.
+          (let h = implies-use _ _ t.ready e in
+          let r = both-right (has CommitReady a.tale) _ h in
+          (both-left (has CommitReady a.tale) _ h, both-left (has CommitReady b.tale) _ r, both-right (has CommitReady b.tale) _ r));
       settled = λ w. settled_by a b ea eb w.1 (implies-use _ _ t.settled (both-make _ _ (subst (λ v. tale_eq a.tale v ≡ true) w.0 (tale_eq-refl a.tale)) w.1));
     }
 
@@ -83,6 +119,10 @@ safe_proposal a ea eb s =
     record {
       never_free_on_both = λ p. absurd (cc (p.1, s.3));
       burnt_behind_the_mint = λ e. let h = s.0.committed (s.0.burnt (entry-same ea Burnt e)) in absurd (cc (h, ap (has CommitReady) s.1));
+      assigned_behind_the_burn = λ e. absurd (cc (e, s.3));
+      burnt_by_a_commit = λ e. let h = s.0.committed (s.0.burnt (entry-same ea Burnt e)) in absurd (cc (h, ap (has CommitReady) s.1));
+      released_by_a_back = λ e. elim e [ inl p ↦ back-alone a.way (s.0.released (entry-same ea Released p)) | inr p ↦ absurd (cc (p, s.3)) ];
+      committed_when_ready = λ e. let h = s.0.committed e in absurd (cc (h, ap (has CommitReady) s.1));
       settled = λ w. absurd (cc (w.1, ap is_whole s.1));
     }
 
@@ -91,6 +131,10 @@ safe_unbegun ea eb s =
     record {
       never_free_on_both = λ p. absurd (cc (p.1, s.1));
       burnt_behind_the_mint = λ e. absurd (cc (e, s.0));
+      assigned_behind_the_burn = λ e. absurd (cc (e, s.1));
+      burnt_by_a_commit = λ e. absurd (cc (e, s.0));
+      released_by_a_back = λ e. elim e [ inl p ↦ absurd (cc (p, s.0)) | inr p ↦ absurd (cc (p, s.1)) ];
+      committed_when_ready = λ e. absurd (cc e);
       settled = λ w. absurd (cc w.1);
     }
 

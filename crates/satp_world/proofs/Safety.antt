@@ -1,31 +1,17 @@
 -- A test that the table passes holds of each two halves that stand.
-use Rattle.std.proofs.Common.{◌≡◌, Bool, true, List, [], ◌∷◌, ◌++◌, Option, Some, None, refl, sym, subst}
+use Rattle.std.proofs.Common.{◌≡◌, Bool, true, List, [], ◌∷◌, ◌++◌, refl, sym, subst}
 use Rattle.satp_base.specs.declared.message.Kind.{Kind}
 use Rattle.satp_base.specs.declared.message.Kind.TheVariants.{TransferProposal}
-use Rattle.satp_base.specs.declared.message.Role.{Role}
-use Rattle.satp_base.specs.declared.message.Role.TheVariants.{Origin, Recipient}
 use Rattle.satp_base.specs.Tales.{IsTale, has, maker}
 use Rattle.satp_world.specs.Sessions.{Half, Tied, Stands}
 use Rattle.satp_world.specs.Sessions.Tied.{Same, Origin_ahead, Recipient_ahead}
-use Rattle.satp_base.proofs.Finite.{andthen, all_of, andthen-left, andthen-right, all_of-at}
-use Rattle.satp_base.proofs.TaleTable.{begun_tales}
+use Rattle.satp_base.proofs.Finite.{all_of, andthen-left, andthen-right, all_of-at}
 use Rattle.satp_world.proofs.TaleSteps.{begun-in, extensions, extension-in}
-use Rattle.satp_world.proofs.HalfTable.{Head, origins, recipients}
+use Rattle.satp_world.proofs.HalfTable.{origins, recipients}
 use Rattle.satp_world.proofs.HalfTest.{pairs_ok}
+use Rattle.satp_world.proofs.SafeTest.{HoldsInTables, at_ahead, at_tale}
 use Rattle.satp_world.proofs.HalfComplete.{head_of}
 use Rattle.satp_world.proofs.StepLaw.{origin-in, recipient-in, pairs-at}
-
-abbrev pub at_ahead : (Half → Half → Bool) → Head → Head → List Kind → Kind → Option Role → Bool
-at_ahead f p q t k None = true
-at_ahead f p q t k (Some Origin) = pairs_ok f (origins p (t ++ k ∷ [])) (recipients q t)
-at_ahead f p q t k (Some Recipient) = pairs_ok f (origins p t) (recipients q (t ++ k ∷ []))
-
-abbrev pub at_tale : (Half → Half → Bool) → Head → Head → List Kind → Bool
-at_tale f p q t = andthen (pairs_ok f (origins p t) (recipients q t)) λ _. all_of (λ k. at_ahead f p q t k (maker k)) (extensions t)
-
--- the test holds of each pair in the tables
-abbrev pub HoldsInTables : (Half → Half → Bool) → Type 0
-HoldsInTables f = (p q : Head) → all_of (at_tale f p q) begun_tales ≡ true
 
 pub pair-tested : (f : Half → Half → Bool) → HoldsInTables f → (a b : Half) → Stands a b → f a b ≡ true
 pair-tested f ok a b s = by_tie s.tied

@@ -1,6 +1,7 @@
 -- Every move of a gateway keeps what stands of all sessions and of the bag.
-use Rattle.std.proofs.Common.{◌≡◌, ◌≢◌, ℕ, zero, suc, ◌+◌, ◌-◌, ◌<◌, ◌≤◌, Bool, true, false, List, [], ◌∷◌, ◌++◌, map, length, drop, Option, Some, None, refl, sym, ap, subst, ◌∙◌, arith, ◌⊎◌, inl, inr}
+use Rattle.std.proofs.Common.{◌≡◌, ℕ, zero, suc, ◌+◌, ◌-◌, ◌≤◌, Bool, true, false, List, [], ◌∷◌, map, length, drop, Option, Some, None, refl, sym, ap, subst, ◌∙◌, arith, ◌⊎◌, inl, inr}
 use Rattle.std.specs.Prelude.{slice_get}
+use Rattle.std.specs.List.{AllByRecursion}
 use Rattle.std.specs.Option.{option_map_or}
 use Rattle.std.specs.FinMap.{get-empty}
 use Rattle.std.proofs.lemmas.List.{length-map, length_push}
@@ -8,7 +9,6 @@ use Rattle.satp_base.specs.Founding.{Founding}
 use Rattle.satp_base.specs.Keys.{session_cmp}
 use Rattle.satp_base.specs.declared.name.Name.{Name}
 use Rattle.satp_base.specs.declared.session.SessionId.{SessionId}
-use Rattle.satp_base.specs.declared.message.Kind.{Kind}
 use Rattle.satp_base.specs.declared.message.Role.{Role}
 use Rattle.satp_base.specs.declared.message.Role.TheVariants.{Origin, Recipient}
 use Rattle.satp_base.specs.declared.message.Link.{Link}
@@ -27,28 +27,31 @@ use Rattle.satp_base.specs.declared.view.View.{View}
 use Rattle.satp_base.specs.Canonical.{part_kind}
 use Rattle.satp_base.specs.Forms.{IsMessage, IsPart}
 use Rattle.satp_base.specs.Signatures.{own}
-use Rattle.satp_base.specs.Chains.{head_of, last_link, message_at, next_text, role_at, texts_from, texts_of, zero_link}
-use Rattle.satp_base.specs.Tales.{IsTale, other}
+use Rattle.satp_base.specs.Chains.{last_link, message_at, next_text, role_at, texts_from, texts_of, zero_link}
+use Rattle.satp_base.specs.Tales.{IsTale, is_whole, other}
 use Rattle.satp_base.specs.declared.record.Next.TheVariants.{Act}
 use Rattle.satp_base.specs.LedgerRule.{LedgerRule, entry_of}
 use Rattle.satp_base.specs.Roles.{RoleRule, next_of}
-use Rattle.satp_base.proofs.ChainLemmas.{zero_formed}
+use Rattle.satp_base.proofs.ChainLemmas.{texts_appended, zero_formed}
 use Rattle.satp_base.proofs.SignatureLemmas.{own_shows}
 use Rattle.satp_base.proofs.TaleTable.{tale-is, tale-short}
 use Rattle.satp_base.proofs.Finite.In.{here}
-use Rattle.satp_world.specs.Sessions.{SessionStands, deal_of, tale_of}
-use Rattle.satp_world.specs.Worlds.{Text, Gateway, Setting, Side, Stored, World, Among, DealGoesOn, Delivered, LawSafety, LedgerFits, Reached, Sayable, SideMoves, WorldMoves, chain_in, is_session, last_texts, message_from, name_at, opposite, recipient_for, records_of, session_in, side_at, start, view_in, with_record, with_side}
+use Rattle.satp_world.specs.Sessions.{SessionStands, tale_of}
+use Rattle.satp_world.specs.Worlds.{Text, Gateway, Setting, Side, Stored, World, Among, BagStands, DealGoesOn, Delivered, EntriesStand, IsChainOf, IsSettledAt, LawSafety, LedgerFits, Reached, Sayable, SideMoves, TiedTexts, WorldMoves, chain_in, is_session, last_texts, maker_side, name_at, opposite, recipient_for, records_of, session_in, side_at, start, view_in, with_record, with_side}
 use Rattle.satp_world.specs.Worlds.Gateway.{A, B}
 use Rattle.satp_world.specs.Worlds.Among.{first, later}
 use Rattle.satp_world.specs.Worlds.Delivered.{Alone, Listed}
 use Rattle.satp_world.specs.Worlds.Sayable.{Own_text, Recovers, Updates, Succeeds, Knows_none}
 use Rattle.satp_world.specs.Worlds.SideMoves.{Proposes, Accepts, Takes, Makes, Notes, Acts, Says, Stops}
 use Rattle.satp_world.specs.Worlds.WorldMoves.{By}
-use Rattle.satp_world.specs.Worlds.Reached.{Starts, Goes}
+use Rattle.satp_world.specs.Worlds.Reached.{Begins, Goes}
+use Rattle.satp_world.specs.Worlds.TiedTexts.{Same as Same_texts, Origin_ahead, Recipient_ahead}
 use Rattle.satp_world.proofs.Records.{is-session, view-apart, chain-here, chain-apart, get-old}
-use Rattle.satp_world.proofs.Chained.{HalfChain, HasMessage, TiedParts, long, maker-has, message-of}
+use Rattle.satp_world.proofs.Chained.{HalfChain, TiedParts, long, maker-has, message-of}
 use Rattle.satp_world.proofs.Chained.TiedParts.{Same, Mine_ahead, Peer_ahead}
-use Rattle.satp_world.proofs.PairLaw.{PairStands, PairMoved, session_by, session_of, role-is, flip-pair, noted, acted, acted-apart, apart, made, took-by, unmoved, proposed, accepted}
+use Rattle.satp_world.proofs.PairLaw.{PairStands, PairMoved, session_by, role-is, flip-pair, noted, acted, acted-apart, apart, made, took-by, unmoved, proposed, accepted}
+use Rattle.satp_world.proofs.EntryLaw.{entries-kept}
+use Rattle.satp_world.proofs.ReadOff.{read-off}
 use Rattle.satp_world.proofs.SafeLaw.{safe-of}
 
 -- ---- gateways
@@ -67,11 +70,6 @@ not_itself : (q : Gateway) → q ≡ opposite q → ⊥
 not_itself A h = cc h
 not_itself B h = cc h
 
--- the gateway that makes the messages of a role
-abbrev maker_side : Gateway → Role → Gateway
-maker_side g Origin = g
-maker_side g Recipient = opposite g
-
 -- the session gives the gateway this role
 abbrev HasRole : Setting → Gateway → Role → SessionId → Type 0
 HasRole st q Origin s = s.gateway ≡ name_at st q
@@ -83,17 +81,11 @@ IsNamed st q s = (s.gateway ≡ name_at st q) ⊎ (s.gateway ≡ name_at st (opp
 
 -- ---- what stands of a world
 
--- a delivered text of a chain stands in the chain of the side that makes it
-abbrev BagStands : Setting → World → List Text → Type 0
-BagStands st w bag =
-    (t : Text) → Delivered st bag t → (g : Gateway) (s : SessionId) → s.gateway ≡ name_at st g → (n : ℕ) (previous : Link) (p : Part)
-    → IsMessage (message_at s (name_at st (opposite g)) (n + 1) previous p) → t ≡ own st.key (message_at s (name_at st (opposite g)) (n + 1) previous p)
-    → slice_get (chain_in s (side_at w (maker_side g (role_at (n + 1)))).records) n ≡ Some t
-
 record WorldStands (st : Setting) (w : World) : Type 0 where
   pairs : (g : Gateway) (s : SessionId) → s.gateway ≡ name_at st g → PairStands Origin s (name_at st (opposite g)) st.key (side_at w g) (side_at w (opposite g))
   named : (q : Gateway) (s : SessionId) (v : View) → view_in s (side_at w q).records ≡ Some v → IsNamed st q s
   bag : BagStands st w w.bag
+  entries : (g : Gateway) → EntriesStand (side_at w g)
 
 -- ---- a move, as one session sees it
 
@@ -428,10 +420,17 @@ bag-of : (w : World) (q : Gateway) (side : Side) (bag : List Text) → (with_sid
 bag-of w A side bag = refl
 bag-of w B side bag = refl
 
+world-entries : (st : Setting) (w : World) (k : WorldStands st w) (q : Gateway) (side : Side) (bag : List Text) → SideMoves st q (side_at w q) w.bag side bag → (g : Gateway) → EntriesStand (side_at (with_side w q side bag) g)
+world-entries st w k A side bag m A = entries-kept st A w.a w.bag side bag m (k.entries A)
+world-entries st w k B side bag m B = entries-kept st B w.b w.bag side bag m (k.entries B)
+world-entries st w k A side bag m B = k.entries B
+world-entries st w k B side bag m A = k.entries A
+
 next-stands : (st : Setting) (w : World) (k : WorldStands st w) (q : Gateway) (side : Side) (bag : List Text) → SideMoves st q (side_at w q) w.bag side bag → WorldStands st (with_side w q side bag)
 next-stands st w k q side bag m = record {
   pairs = λ g s h. (pair-moved st w k g q s h side bag m).stands;
   named = world-named st w k q side bag m;
+  entries = world-entries st w k q side bag m;
   bag = subst (BagStands st (with_side w q side bag)) (sym (bag-of w q side bag)) (λ t d g s gate n previous p f e. grows st w q side bag m (maker_side g (role_at (n + 1))) s n t (moved-bag st w k q side bag m t d g s gate n previous p f e));
 }
 
@@ -448,9 +447,14 @@ start-half s r key side e = record {
   headed = λ v h. absurd (cc (sym h ∙ ap (view_in s) e));
 }
 
+no-entry : (a b : Founding) (g : Gateway) → EntriesStand (side_at (start a b) g)
+no-entry a b A s k e = absurd (cc (sym (get-empty session_cmp s) ∙ e))
+no-entry a b B s k e = absurd (cc (sym (get-empty session_cmp s) ∙ e))
+
 start-stands : (st : Setting) (a b : Founding) → WorldStands st (start a b)
 start-stands st a b = record {
   pairs = λ g s h. by_gateway g s;
+  entries = no-entry a b;
   named = λ q s v h. none q s v h;
   bag = λ t d g s gate n previous p f e. absurd (empty t d);
 }
@@ -467,9 +471,11 @@ start-stands st a b = record {
     empty t (Alone i) = elim i [ ]
     empty t (Listed m n entries f i x j) = elim i [ ]
 
-world-stands : (st : Setting) (w : World) → Reached st w → WorldStands st w
-world-stands st _ (Starts a b) = start-stands st a b
-world-stands st _ (Goes w v r (By q side bag m)) = next-stands st w (world-stands st w r) q side bag m
+world-stands : (st : Setting) (a b : Founding) (w : World) → Reached st a b w → WorldStands st w
+world-stands st a b _ Begins = start-stands st a b
+world-stands st a b _ (Goes w v r (By q side bag m)) = next-stands st w (world-stands st a b w r) q side bag m
+
+-- ---- what the law says of it
 
 session-stands : (st : Setting) (w : World) (k : WorldStands st w) (g : Gateway) (s : SessionId) → s.gateway ≡ name_at st g → SessionStands (session_in w g s)
 session-stands st w k g s h = (k.pairs g s h).stands
@@ -488,13 +494,63 @@ equal-chains s r key mine peer k e = by_tie k.tied
     by_tie (Mine_ahead p q x) = absurd (omega (arith, lengths, ap length x, length_push k.peer_parts p))
     by_tie (Peer_ahead p q x) = absurd (omega (arith, lengths, ap length x, length_push k.my_parts p))
 
+-- texts are tied as their parts are
+tied-texts : (s : SessionId) (r : Name) (key : List ℕ) (mine peer : List Part) → TiedParts Origin mine peer → TiedTexts (texts_of s r key mine) (texts_of s r key peer)
+tied-texts s r key mine peer (Same e) = Same_texts (ap (texts_of s r key) e)
+tied-texts s r key mine peer (Mine_ahead p x e) =
+    let more = ap (texts_of s r key) e ∙ texts_appended s r key peer p in
+    Origin_ahead _ (ap role_at (ap length more ∙ length_push (texts_of s r key peer) _ ∙ ap (λ n. n + 1) (long s r key peer)) ∙ x) more
+tied-texts s r key mine peer (Peer_ahead p x e) =
+    let more = ap (texts_of s r key) e ∙ texts_appended s r key mine p in
+    Recipient_ahead _ (ap role_at (ap length more ∙ length_push (texts_of s r key mine) _ ∙ ap (λ n. n + 1) (long s r key mine)) ∙ x) more
+
+tied-chains : (s : SessionId) (r : Name) (key : List ℕ) (mine peer : Side) → PairStands Origin s r key mine peer → TiedTexts (chain_in s mine.records) (chain_in s peer.records)
+tied-chains s r key mine peer k =
+    subst (λ ts. TiedTexts ts (chain_in s peer.records)) (sym k.my_chain.chain)
+    (subst (TiedTexts (texts_of s r key k.my_parts)) (sym k.peer_chain.chain) (tied-texts s r key k.my_parts k.peer_parts k.tied))
+
+-- the chain of a side whose records name the session
+chain-by : (st : Setting) (w : World) (q : Gateway) (role : Role) (s : SessionId) (v : View) → view_in s (side_at w q).records ≡ Some v → PairStands role s (recipient_for st q role) st.key (side_at w q) (side_at w (opposite q)) → IsChainOf s (recipient_for st q v.role) st.key v (chain_in s (side_at w q).records)
+chain-by st w q role s v e k =
+    let (rest, head) = k.my_chain.headed v e in
+    let tale : v.tale ≡ map part_kind k.my_parts = sym (ap tale_of e) ∙ k.my_chain.tale in
+    let is = tale-by role (view_in s (side_at w q).records) (view_in s (side_at w (opposite q)).records) _ _ k.stands in
+    subst (λ x. IsChainOf s (recipient_for st q x) st.key v (chain_in s (side_at w q).records)) (sym (role-is role (view_in s (side_at w q).records) (view_in s (side_at w (opposite q)).records) v _ _ e k.stands))
+    (record {
+      rest = rest;
+      chain = record {
+        tale = subst IsTale (k.my_chain.tale ∙ ap (map part_kind) head) is;
+        formed = subst (AllByRecursion IsPart) head k.my_chain.formed;
+        each = k.my_chain.chain ∙ ap (texts_of s (recipient_for st q role) st.key) head;
+      };
+      kinds = ap (map part_kind) (sym head) ∙ sym tale;
+    })
+
+chain-is : (st : Setting) (w : World) (k : WorldStands st w) (q : Gateway) (s : SessionId) (v : View) → view_in s (side_at w q).records ≡ Some v → IsChainOf s (recipient_for st q v.role) st.key v (chain_in s (side_at w q).records)
+chain-is st w k q s v e = by_name q (k.named q s v e) e
+  where
+    by_name : (q : Gateway) → IsNamed st q s → view_in s (side_at w q).records ≡ Some v → IsChainOf s (recipient_for st q v.role) st.key v (chain_in s (side_at w q).records)
+    by_name q (inl h) e = chain-by st w q Origin s v e (k.pairs q s h)
+    by_name A (inr h) e = chain-by st w A Recipient s v e (flip-pair Origin s st.a st.key w.b w.a (k.pairs B s h))
+    by_name B (inr h) e = chain-by st w B Recipient s v e (flip-pair Origin s st.b st.key w.a w.b (k.pairs A s h))
+
+settled-at : (st : Setting) (w : World) (k : WorldStands st w) (g : Gateway) (s : SessionId) → s.gateway ≡ name_at st g → chain_in s (side_at w g).records ≡ chain_in s (side_at w (opposite g)).records → is_whole (tale_of (session_in w g s).a) ≡ true → IsSettledAt w g s
+settled-at st w k g s h e whole =
+    let same = equal-chains s (name_at st (opposite g)) st.key (side_at w g) (side_at w (opposite g)) (k.pairs g s h) e in
+    (e, (same, whole), (safe-of (session_in w g s) (session-stands st w k g s h)).settled (same, whole))
+
 pub law_safety : LawSafety
-law_safety st w r =
-    let k = world-stands st w r in
+law_safety st a b w r =
+    let k = world-stands st a b w r in
     record {
       named = k.named;
       stands = session-stands st w k;
+      tied = λ g s h. tied-chains s (name_at st (opposite g)) st.key (side_at w g) (side_at w (opposite g)) (k.pairs g s h);
+      chains = chain-is st w k;
+      bag = k.bag;
+      entries = k.entries;
       safe = λ g s h. safe-of (session_in w g s) (session-stands st w k g s h);
-      equal_chains = λ g s h e. equal-chains s (name_at st (opposite g)) st.key (side_at w g) (side_at w (opposite g)) (k.pairs g s h) e;
+      settled = settled-at st w k;
+      read_off = read-off st a b (λ w r. session-stands st w (world-stands st a b w r)) w r;
       goes_on = deal-goes-on st w k;
     }

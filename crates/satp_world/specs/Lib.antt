@@ -1,3 +1,6 @@
 pub mod Deal
 pub mod Sessions
 pub mod Worlds
+pub mod Examples
+pub mod Totals
+pub mod Limits

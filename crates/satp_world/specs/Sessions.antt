@@ -241,10 +241,18 @@ abbrev pub HasMint : Option View → Type 0
 HasMint None = ⊥
 HasMint (Some v) = IsTrue v.done.mint × IsTrue (has CommitReady v.tale)
 
+-- commit-ready stands in both chains, and the recipient has chosen no way, so that its abort is too late for good
+abbrev pub IsReady : Session → Type 0
+IsReady s = IsTrue (has CommitReady (tale_of s.a)) × IsTrue (has CommitReady (tale_of s.b)) × IsTrue (no_way (way_of s.b))
+
 -- What holds of every session that moves lead to.
 pub record IsSafe (s : Session) : Type 0 where
   pub never_free_on_both : ¬ (IsFreeAtOrigin (deal_of s) × IsFreeAtRecipient (deal_of s))
   pub burnt_behind_the_mint : s.a_entry ≡ Burnt → HasMint s.b
+  pub assigned_behind_the_burn : s.b_entry ≡ Assigned → s.a_entry ≡ Burnt
+  pub burnt_by_a_commit : s.a_entry ≡ Burnt → (deal_of s).v ≡ Decision.Commit
+  pub released_by_a_back : (s.a_entry ≡ Released) ⊎ (s.b_entry ≡ Released) → (deal_of s).v ≡ Decision.Back
+  pub committed_when_ready : IsTrue (is_commit (way_of s.a)) → IsReady s
   pub settled : IsWhole s → IsSettled s
 
 abbrev pub LawSessions : Type 0

@@ -1,6 +1,6 @@
 -- Two gateways with records and ledgers, a bag of texts between them that only grows, and the moves of each.
-use Rattle.std.specs.Prelude.{◌≡◌, ◌≢◌, ◌⊎◌, ℕ, zero, suc, ◌+◌, ◌-◌, ◌<◌, ◌≤◌, Bool, true, false, List, [], ◌∷◌, ◌++◌, map, filter, length, drop, slice_get, Option, Some, None, IsTrue}
-use Rattle.std.specs.List.{flat_map}
+use Rattle.std.specs.Prelude.{◌≡◌, ◌≢◌, ◌⊎◌, ℕ, ◌+◌, ◌-◌, ◌<◌, ◌≤◌, Bool, true, false, List, [], ◌∷◌, ◌++◌, map, filter, length, drop, slice_get, Option, Some, IsTrue}
+use Rattle.std.specs.List.{flat_map, list_any}
 use Rattle.std.specs.FinMap as map_of
 use Rattle.std.specs.Ordering.{eq_by_cmp}
 use Rattle.satp_base.specs.Keys.{session_cmp}
@@ -10,14 +10,15 @@ use Rattle.satp_base.specs.LedgerRule.{LedgerRule, entry_of, result_of}
 use Rattle.satp_base.specs.Canonical.{part_kind}
 use Rattle.satp_base.specs.Forms.{IsMessage, IsPart}
 use Rattle.satp_base.specs.Signatures.{own}
-use Rattle.satp_base.specs.Chains.{head_of, next_text, role_at}
-use Rattle.satp_base.specs.Tales.{maker, other}
+use Rattle.satp_base.specs.Chains.{ChainOf, head_of, message_at, next_text, role_at}
+use Rattle.satp_base.specs.Tales.{is_whole, kind_eq}
 use Rattle.satp_base.specs.Views.{view_of}
-use Rattle.satp_base.specs.Roles.{After, RoleRule, next_of}
+use Rattle.satp_base.specs.Roles.{After, RoleRule, either, next_of}
 use Rattle.satp_base.specs.declared.name.Name.{Name}
 use Rattle.satp_base.specs.declared.session.SessionId.{SessionId}
 use Rattle.satp_base.specs.declared.message.Role.{Role}
 use Rattle.satp_base.specs.declared.message.Role.TheVariants.{Origin, Recipient}
+use Rattle.satp_base.specs.declared.message.Kind.TheVariants.{CommitReady}
 use Rattle.satp_base.specs.declared.message.Terms.{Terms}
 use Rattle.satp_base.specs.declared.message.Link.{Link}
 use Rattle.satp_base.specs.declared.message.Part.{Part}
@@ -25,16 +26,18 @@ use Rattle.satp_base.specs.declared.message.Part.TheVariants.{Proposal}
 use Rattle.satp_base.specs.declared.message.Body.{Body}
 use Rattle.satp_base.specs.declared.message.Body.TheVariants as body
 use Rattle.satp_base.specs.declared.message.Message.{Message}
+use Rattle.satp_base.specs.declared.ledger.LedgerEntry.{LedgerEntry}
 use Rattle.satp_base.specs.declared.ledger.LedgerOp.{LedgerOp}
 use Rattle.satp_base.specs.declared.ledger.LedgerOp.TheVariants.{Lock, Mint}
 use Rattle.satp_base.specs.declared.ledger.Answer.{Answer}
 use Rattle.satp_base.specs.declared.record.Cause.TheVariants.{LockRefused, UnknownAsset, MintCapped, LedgerTaken}
-use Rattle.satp_base.specs.declared.record.Way.TheVariants.{Back}
+use Rattle.satp_base.specs.declared.record.Way.TheVariants.{Commit, Back}
 use Rattle.satp_base.specs.declared.record.Rec.{Rec}
 use Rattle.satp_base.specs.declared.record.Rec.TheVariants.{Began, Took, Made, Did, Chose, Rescue}
 use Rattle.satp_base.specs.declared.record.Next.TheVariants.{Act}
 use Rattle.satp_base.specs.declared.view.View.{View}
-use Rattle.satp_world.specs.Sessions.{GoesOn, IsSafe, Session, SessionStands, deal_of, tale_of}
+use Rattle.satp_world.specs.Deal.{Deal, Decision}
+use Rattle.satp_world.specs.Sessions.{GoesOn, IsSafe, IsSettled, IsWhole, Session, SessionStands, deal_of, tale_of}
 
 -- ---- what stands
 
@@ -147,7 +150,7 @@ abbrev pub last_texts : ℕ → List Text → List Text
 last_texts n texts = drop (length texts - n) texts
 
 -- What a gateway may say: a text of its own that stands in its chain, a recovery message of the present chain, or that
--- it knows nothing of a session of the peer for which the peer asked.
+-- it knows nothing of a session of the peer, where a `recover` of it was sent to this gateway.
 pub data Sayable (st : Setting) (g : Gateway) (xs : List Stored) (bag : List Text) : Text → Type 0 where
   Own_text : (s : SessionId) (v : View) (n : ℕ) (t : Text) → view_in s xs ≡ Some v → slice_get (chain_in s xs) n ≡ Some t → role_at (n + 1) ≡ v.role → Sayable st g xs bag t
   Recovers : (s : SessionId) (v : View) → view_in s xs ≡ Some v
@@ -160,7 +163,7 @@ pub data Sayable (st : Setting) (g : Gateway) (xs : List Stored) (bag : List Tex
       → IsMessage (message_from st g s (body.Success (length (chain_in s xs)) (head_of (chain_in s xs)).last))
       → Sayable st g xs bag (own st.key (message_from st g s (body.Success (length (chain_in s xs)) (head_of (chain_in s xs)).last)))
   Knows_none : (m : Message) (n : ℕ) (last : Link) → m.session.gateway ≡ name_at st (opposite g) → records_of m.session xs ≡ []
-      → IsMessage m → m.sender ≡ name_at st (opposite g) → m.body ≡ body.Recover n last → Among (own st.key m) bag
+      → IsMessage m → m.receiver ≡ name_at st g → m.body ≡ body.Recover n last → Among (own st.key m) bag
       → IsMessage (message_from st g m.session (body.Update 0 []))
       → Sayable st g xs bag (own st.key (message_from st g m.session (body.Update 0 [])))
 
@@ -227,10 +230,10 @@ pub data SideMoves (st : Setting) (g : Gateway) (side : Side) (bag : List Text) 
 pub data WorldMoves (st : Setting) (w : World) : World → Type 0 where
   By : (g : Gateway) (side : Side) (bag : List Text) → SideMoves st g (side_at w g) w.bag side bag → WorldMoves st w (with_side w g side bag)
 
--- every world that moves of both sides lead to
-pub data Reached (st : Setting) : World → Type 0 where
-  Starts : (a b : Founding) → Reached st (start a b)
-  Goes : (w v : World) → Reached st w → WorldMoves st w v → Reached st v
+-- every world that moves of both sides lead to, from ledgers that were founded so
+pub data Reached (st : Setting) (a b : Founding) : World → Type 0 where
+  Begins : Reached st a b (start a b)
+  Goes : (w v : World) → Reached st a b w → WorldMoves st w v → Reached st a b v
 
 -- ---- the law
 
@@ -243,9 +246,73 @@ session_in w g s = record {
   b_entry = entry_of (side_at w (opposite g)).book.entries s;
 }
 
+-- one of the records passes the test
+abbrev pub holds : (Rec → Bool) → List Stored → Bool
+holds test xs = list_any (λ x. test x.rec) xs
+
+abbrev pub chose_commit : Rec → Bool
+chose_commit (Chose Commit) = true
+chose_commit _ = false
+
+abbrev pub chose_back : Rec → Bool
+chose_back (Chose (Back cause)) = true
+chose_back _ = false
+
+abbrev pub made_ready : Rec → Bool
+made_ready (Made kind) = kind_eq CommitReady kind
+made_ready _ = false
+
+-- where the deal of a session of this gateway's name is, as both ledgers and the records themselves say
+abbrev pub as_deal : World → Gateway → SessionId → Deal
+as_deal w g s = record {
+  a = entry_of (side_at w g).book.entries s;
+  b = entry_of (side_at w (opposite g)).book.entries s;
+  v = elim (holds chose_commit (records_of s (side_at w g).records)) [
+    | true ↦ Decision.Commit
+    | false ↦ elim (either (holds chose_back (records_of s (side_at w g).records)) (holds chose_back (records_of s (side_at w (opposite g)).records))) [ true ↦ Decision.Back | false ↦ Decision.Open ]
+  ];
+  ready = holds made_ready (records_of s (side_at w (opposite g)).records);
+}
+
 -- the deal of the session is as before, or one step of a side further
 abbrev pub DealGoesOn : Session → Session → Type 0
 DealGoesOn s new = (deal_of new ≡ deal_of s) ⊎ ((role : Role) × GoesOn role (deal_of s) (deal_of new))
+
+-- ---- what stands of texts
+
+-- the gateway that makes the messages of a role, in a session of this gateway's name
+abbrev pub maker_side : Gateway → Role → Gateway
+maker_side g Origin = g
+maker_side g Recipient = opposite g
+
+-- One chain is a prefix of the other, and the lengths differ by at most one, the longer one ending with its owner's text.
+pub data TiedTexts (a b : List Text) : Type 0 where
+  Same : a ≡ b → TiedTexts a b
+  Origin_ahead : (t : Text) → role_at (length a) ≡ Origin → a ≡ b ++ t ∷ [] → TiedTexts a b
+  Recipient_ahead : (t : Text) → role_at (length b) ≡ Recipient → b ≡ a ++ t ∷ [] → TiedTexts a b
+
+-- The chain of a session's records is that of a proposal with the terms of the records, and goes on as their tale.
+pub record IsChainOf (s : SessionId) (recipient : Name) (key : List ℕ) (v : View) (texts : List Text) : Type 0 where
+  pub rest : List Part
+  pub chain : ChainOf s recipient key (Proposal v.terms ∷ rest) texts
+  pub kinds : map part_kind (Proposal v.terms ∷ rest) ≡ v.tale
+
+-- a delivered text of a chain stands in the chain of the side that makes it
+abbrev pub BagStands : Setting → World → List Text → Type 0
+BagStands st w bag =
+    (t : Text) → Delivered st bag t → (g : Gateway) (s : SessionId) → s.gateway ≡ name_at st g → (n : ℕ) (previous : Link) (part : Part)
+    → IsMessage (message_at s (name_at st (opposite g)) (n + 1) previous part) → t ≡ own st.key (message_at s (name_at st (opposite g)) (n + 1) previous part)
+    → slice_get (chain_in s (side_at w (maker_side g (role_at (n + 1)))).records) n ≡ Some t
+
+-- an entry of a ledger is of a session that the side's records name, under the terms of their proposal
+abbrev pub EntriesStand : Side → Type 0
+EntriesStand side = (s : SessionId) (k : LedgerEntry) → map_of.get side.book.entries s ≡ Some k → (v : View) × (view_in s side.records ≡ Some v) × (k.terms ≡ v.terms)
+
+-- both chains of the session are the same whole list of texts, and the entries are those of its end
+abbrev pub IsSettledAt : World → Gateway → SessionId → Type 0
+IsSettledAt w g s =
+    (chain_in s (side_at w g).records ≡ chain_in s (side_at w (opposite g)).records)
+    × IsWhole (session_in w g s) × IsSettled (session_in w g s)
 
 -- What holds of every world that is reached, and of whatever moves next.
 pub record IsSafeWorld (st : Setting) (w : World) : Type 0 where
@@ -253,12 +320,22 @@ pub record IsSafeWorld (st : Setting) (w : World) : Type 0 where
   pub named : (g : Gateway) (s : SessionId) (v : View) → view_in s (side_at w g).records ≡ Some v → (s.gateway ≡ name_at st g) ⊎ (s.gateway ≡ name_at st (opposite g))
   -- the joint invariant of each session, the terms of both sides among it
   pub stands : (g : Gateway) (s : SessionId) → s.gateway ≡ name_at st g → SessionStands (session_in w g s)
-  -- the asset is never free on both ledgers, a burnt entry has its mint recorded, and what is whole is settled
+  -- one chain is a prefix of the other
+  pub tied : (g : Gateway) (s : SessionId) → s.gateway ≡ name_at st g → TiedTexts (chain_in s (side_at w g).records) (chain_in s (side_at w (opposite g)).records)
+  -- each side's texts are those of its tale, behind a proposal with its terms
+  pub chains : (g : Gateway) (s : SessionId) (v : View) → view_in s (side_at w g).records ≡ Some v → IsChainOf s (recipient_for st g v.role) st.key v (chain_in s (side_at w g).records)
+  -- every text of a chain that was delivered stands in its sender's chain
+  pub bag : BagStands st w w.bag
+  -- the terms of the entries are those of the proposal
+  pub entries : (g : Gateway) → EntriesStand (side_at w g)
+  -- the asset is never free on both ledgers, a burnt entry has its mint recorded, and each decision has its grounds
   pub safe : (g : Gateway) (s : SessionId) → s.gateway ≡ name_at st g → IsSafe (session_in w g s)
-  -- two chains of the same texts have the same tale
-  pub equal_chains : (g : Gateway) (s : SessionId) → s.gateway ≡ name_at st g → chain_in s (side_at w g).records ≡ chain_in s (side_at w (opposite g)).records → tale_of (session_in w g s).a ≡ tale_of (session_in w g s).b
+  -- a session whose two chains are equal and whole is settled
+  pub settled : (g : Gateway) (s : SessionId) → s.gateway ≡ name_at st g → chain_in s (side_at w g).records ≡ chain_in s (side_at w (opposite g)).records → IsTrue (is_whole (tale_of (session_in w g s).a)) → IsSettledAt w g s
+  -- the deal that the views say is the one that the records say
+  pub read_off : (g : Gateway) (s : SessionId) → s.gateway ≡ name_at st g → as_deal w g s ≡ deal_of (session_in w g s)
   -- a move is a step of the deal machine, or leaves the deal as it is
   pub goes_on : (g : Gateway) (s : SessionId) → s.gateway ≡ name_at st g → (v : World) → WorldMoves st w v → DealGoesOn (session_in w g s) (session_in v g s)
 
 abbrev pub LawSafety : Type 0
-LawSafety = (st : Setting) (w : World) → Reached st w → IsSafeWorld st w
+LawSafety = (st : Setting) (a b : Founding) (w : World) → Reached st a b w → IsSafeWorld st w

@@ -5,6 +5,9 @@
 
 ghost use Rattle.satp_world.specs.Sessions.{LawSessions, LawStep};
 ghost use Rattle.satp_world.specs.Worlds.{LawSafety};
+ghost use Rattle.satp_world.specs.Examples.{LawEndings};
+ghost use Rattle.satp_world.specs.Limits.{LawLimits};
+ghost use Rattle.satp_world.specs.Totals.{LawTotal};
 
 /// From every state of a session in which the joint invariant holds, each move of either side keeps it, and is a step
 /// of the deal machine or leaves the deal as it is. Ledgers may answer as their amounts allow.
@@ -23,4 +26,25 @@ pub fn law_sessions()
 /// Texts may be lost, repeated and reordered, and gateways may stop: only a text that was said is ever taken.
 pub fn law_safety()
     ensures { LawSafety }
+{}
+
+/// Each ending of a session is reached by moves from the beginning, wherever the amounts of both ledgers allow it: a
+/// committed transfer, one that either side aborts, one whose lock or mint is refused, and those that a round of
+/// recovery ends after a lost message and a stop: the proposal, a message of the origin, or one of the recipient.
+pub fn law_endings()
+    ensures { LawEndings }
+{}
+
+/// What no move does: burn before the recipient is ready, take a text that its maker's chain doesn't hold, say an
+/// update of more than two messages, answer on an unknown session that the peer didn't ask for, or begin a session past
+/// the bound of each role.
+pub fn law_limits()
+    ensures { LawLimits }
+{}
+
+/// In every world that moves of both gateways lead to, and of every asset: what is free on both ledgers, over all
+/// owners and all sessions of both directions, is at most what both ledgers were founded with, and just that wherever
+/// every begun session is settled.
+pub fn law_total()
+    ensures { LawTotal }
 {}

@@ -1,4 +1,5 @@
 use Rattle.std.proofs.Common.{sym, ◌∙◌}
+use Rattle.satp_chain.proofs.ChainedLemmas.{extends-by_tale, extends-tale}
 use Rattle.satp_chain.proofs.LawLemmas.{chain_front, one_list}
 use Rattle.satp_chain.proofs.laws.law_chains.Goals as goal
 
@@ -10,3 +11,6 @@ returns-clause-parts c = one_list
 
 pub returns-clause-fronts : goal.returns-clause-fronts
 returns-clause-fronts c = chain_front
+
+pub returns-clause-tales : goal.returns-clause-tales
+returns-clause-tales c = λ chain kind tale. (extends-tale chain kind tale, extends-by_tale chain kind tale)

@@ -1,4 +1,4 @@
-use Rattle.std.proofs.Common.{◌≡◌, ◌∙◌, arith, sym}
+use Rattle.std.proofs.Common.{◌∙◌, arith, sym}
 use Rattle.satp_accounts.specs.Books.{book_of}
 use Rattle.satp_accounts.proofs.SumLemmas.{free_fits, free_is}
 use Rattle.satp_accounts.proofs.accounts.Accounts.free_sum_of.Goals as goal

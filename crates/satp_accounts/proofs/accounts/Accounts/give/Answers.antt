@@ -1,18 +1,17 @@
-use Rattle.std.proofs.Common.{◌≡◌, ◌∙◌, ◌+◌, ℕ, ap, ap₂, sym, arith}
+use Rattle.std.proofs.Common.{◌∙◌, ◌+◌, ℕ, ap, ap₂, sym, arith}
 use Rattle.std.specs.FinMap.{from_entries}
 use Rattle.satp_base.specs.Ledgers.{Entries}
-use Rattle.satp_base.proofs.SessionLemmas.{get_session}
-use Rattle.satp_money.proofs.Maps.{get_value, one_value}
+use Rattle.satp_money.proofs.Maps.{one_value}
 use Rattle.satp_money.proofs.Moves.{each_is}
 use Rattle.satp_accounts.specs.Books.{book_of}
 use Rattle.satp_accounts.specs.Owners.{owned_cmp}
-use Rattle.satp_accounts.specs.declared.owned.Owned.{Owned}
 use Rattle.satp_accounts.proofs.OwnerLemmas.{exact_owned, owned_total}
-use Rattle.satp_accounts.proofs.StepLemmas.{entry_put, entry_there, from_err, from_ok, give_done, give_fits, not_giving, receiver_asset}
+use Rattle.satp_money.proofs.Steps.{entry_put, entry_there, from_err, from_ok, not_giving}
+use Rattle.satp_accounts.proofs.StepLemmas.{give_done, raise_fits}
 use Rattle.satp_accounts.proofs.accounts.Accounts.give.Goals as goal
 
 pub overflow_add-amount : goal.overflow_add-amount
-overflow_add-amount c = omega (arith, c.get.ensures, c.amount.ensures ∙ sym (each_is _ _ _ c.args.self.now.agrees c.args.owned.asset c.args.owned.owner), give_fits (book_of c.args.self.now) c.args.op c.args.session c.args.terms (from_entries c.args.self.now.amounts.entries) c.args.owned c.args.self.now.agrees c.requires.giving c.requires.terms (ap (λ (o : Owned). o.asset) c.requires.receiver ∙ receiver_asset c.args.op c.args.terms))
+overflow_add-amount c = omega (arith, c.get.ensures, c.amount.ensures ∙ sym (each_is _ _ _ c.args.self.now.agrees c.args.owned.asset c.args.owned.owner), raise_fits (book_of c.args.self.now) c.args.op c.args.session c.args.terms (from_entries c.args.self.now.amounts.entries) c.args.owned c.args.self.now.agrees c.requires.giving c.requires.terms c.requires.receiver)
 
 pub unreachable-requires : goal.unreachable-requires
 unreachable-requires c = not_giving c.args.op _ c.requires.giving (entry_there c.args.self.now.entries.entries c.args.session (from_err c.insert-2.result _ c.if-is_err-2.ensures.value c.insert-2.ensures.absent))

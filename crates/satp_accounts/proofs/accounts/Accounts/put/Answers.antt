@@ -1,9 +1,9 @@
-use Rattle.std.proofs.Common.{◌≡◌, ◌∙◌, ap, sym}
+use Rattle.std.proofs.Common.{ap}
 use Rattle.std.specs.FinMap.{from_entries}
 use Rattle.satp_base.specs.Ledgers.{Entries}
 use Rattle.satp_base.proofs.GenesisReading.{on_ok}
 use Rattle.satp_accounts.specs.Books.{book_of}
-use Rattle.satp_accounts.proofs.StepLemmas.{entry_put, on_err, put_agrees, still_agrees}
+use Rattle.satp_money.proofs.Steps.{entry_put, on_err, put_agrees, still_agrees}
 use Rattle.satp_accounts.proofs.accounts.Accounts.put.Goals as goal
 
 pub invariant_of-self : goal.invariant_of-self

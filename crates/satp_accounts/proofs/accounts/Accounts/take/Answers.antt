@@ -1,13 +1,13 @@
-use Rattle.std.proofs.Common.{◌≡◌, ◌∙◌, ◌-◌, ◌≤◌, ℕ, ap, ap₂, refl, subst, sym}
+use Rattle.std.proofs.Common.{◌∙◌, ◌-◌, ◌≤◌, ℕ, ap, ap₂, refl, subst, sym}
 use Rattle.std.specs.FinMap.{from_entries}
 use Rattle.satp_base.specs.Ledgers.{Entries}
-use Rattle.satp_base.proofs.SessionLemmas.{get_session}
-use Rattle.satp_money.proofs.Maps.{get_value, one_value}
+use Rattle.satp_money.proofs.Maps.{one_value}
 use Rattle.satp_money.proofs.Moves.{each_is}
 use Rattle.satp_accounts.specs.Books.{book_of}
 use Rattle.satp_accounts.specs.Owners.{owned_cmp}
 use Rattle.satp_accounts.proofs.OwnerLemmas.{exact_owned, owned_total}
-use Rattle.satp_accounts.proofs.StepLemmas.{entry_put, from_err, from_ok, some_amount, take_done}
+use Rattle.satp_money.proofs.Steps.{entry_put, from_err, from_ok}
+use Rattle.satp_accounts.proofs.StepLemmas.{some_amount, take_done}
 use Rattle.satp_base.specs.declared.ledger.LedgerOp.TheVariants.{Lock}
 use Rattle.satp_accounts.proofs.accounts.Accounts.take.Goals as goal
 

@@ -1,0 +1,123 @@
+use crate::area_file::{AreaFile, OWNER_ALONE, open_apart};
+use satp_base::Area;
+use std::alloc::Global;
+use std::fs::{self, File, Files, OpenOptions};
+use std::io::{self, ErrorKind};
+use std::os::unix::fs::OpenOptionsExt;
+use std::path::{Path, PathBuf};
+
+const LOCK: &str = "lock";
+
+const JOURNAL_A: &str = "journal-a";
+
+const JOURNAL_B: &str = "journal-b";
+
+const LEDGER: &str = "ledger";
+
+/// A directory with a file for each area.
+#[derive(Drop)]
+pub struct Folder {
+    path: PathBuf,
+    journal_a: AreaFile,
+    journal_b: AreaFile,
+    ledger: AreaFile,
+    /// Keeps other programs out for as long as it is open.
+    _lock: Option<File>,
+}
+
+impl Folder {
+    /// Goes to a directory, which is made where it is missing, and locks it.
+    ///
+    /// It fails at once where another program holds the lock.
+    pub fn enter<R: Files<File = File>>(
+        files: &R,
+        alloc: Global,
+        dir: &[u8],
+    ) -> io::Result<Folder> {
+        let path = read_path(dir)?;
+        make_folder(files, path)?;
+        let lock = take_lock(files, path.join(alloc, LOCK)?.as_path())?;
+        Folder::open(files, alloc, path, Some(lock))
+    }
+
+    /// The same directory once more, under the lock of this one.
+    pub fn again<R: Files<File = File>>(&self, files: &R, alloc: Global) -> io::Result<Folder> {
+        Folder::open(files, alloc, self.path.as_path(), None)
+    }
+
+    fn open<R: Files<File = File>>(
+        files: &R,
+        alloc: Global,
+        path: Path<'_>,
+        lock: Option<File>,
+    ) -> io::Result<Folder> {
+        // A file may stand here that was made just before a program was stopped: its entry isn't safe yet.
+        sync_folder(files, path)?;
+        Ok(Folder {
+            path: path.to_path_buf(alloc)?,
+            journal_a: AreaFile::new(path.join(alloc, JOURNAL_A)?),
+            journal_b: AreaFile::new(path.join(alloc, JOURNAL_B)?),
+            ledger: AreaFile::new(path.join(alloc, LEDGER)?),
+            _lock: lock,
+        })
+    }
+
+    /// The file of an area.
+    pub fn area(&mut self, area: Area) -> &mut AreaFile {
+        match area {
+            Area::JournalA => &mut self.journal_a,
+            Area::JournalB => &mut self.journal_b,
+            Area::Ledger => &mut self.ledger,
+        }
+    }
+}
+
+/// The path that the bytes spell. The empty text names no directory.
+fn read_path(dir: &[u8]) -> io::Result<Path<'_>> {
+    match str::from_utf8(dir) {
+        Ok(text) if !text.is_empty() => Ok(Path::new(text)),
+        _ => Err(ErrorKind::InvalidInput.into()),
+    }
+}
+
+/// Makes a directory, and the folders above it, where they are missing. The entries of those that it made survive a stop.
+fn make_folder<R: Files<File = File>>(files: &R, path: Path<'_>) -> io::Result<()> {
+    let mut missing = 0u64;
+    for folder in path.ancestors() {
+        if folder.exists(files) {
+            break;
+        }
+        missing = missing.saturating_add(1);
+    }
+    fs::create_dir_all(files, path)?;
+    for folder in path.ancestors() {
+        if missing == 0 {
+            break;
+        }
+        missing -= 1;
+        if let Some(above) = folder.parent() {
+            sync_folder(files, above)?;
+        }
+    }
+    Ok(())
+}
+
+/// Makes the entries of a folder survive a stop. The empty path is where the program runs.
+pub fn sync_folder<R: Files<File = File>>(files: &R, path: Path<'_>) -> io::Result<()> {
+    let text = path.as_str();
+    let path = if text.is_empty() { "." } else { text };
+    File::open(files, path)?.sync_all()
+}
+
+/// Opens the lock file, which is made where it is missing, and takes its lock without waiting for it.
+fn take_lock<R: Files<File = File>>(files: &R, path: Path<'_>) -> io::Result<File> {
+    let mut options = OpenOptions::new();
+    options
+        .read(true)
+        .write(true)
+        .create(true)
+        .mode(OWNER_ALONE);
+    let lock = open_apart(files, &options, path)?;
+    lock.try_lock()?;
+    Ok(lock)
+}

@@ -1,0 +1,10 @@
+pub mod Lists
+pub mod Prefixes
+pub mod BookLemmas
+pub mod Reading
+pub mod Steps
+pub mod Changes
+pub mod Storing
+pub mod Keeping
+pub mod FoundLemmas
+pub mod ClearLemmas

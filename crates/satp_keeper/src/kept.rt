@@ -1,0 +1,258 @@
+ghost use Rattle.std.specs.Prelude.{◌≡◌, ◌≤◌, ◌+◌, Ok, Some, None, [], IfErr, IfOk, IfSome, MatchResult, IsTrue, ◌↔◌, false, if◌then◌else◌};
+ghost use Rattle.satp_base.specs.Acts.{founded};
+ghost use Rattle.satp_base.specs.Streams.{HasCause, Rose};
+ghost use Rattle.satp_base.specs.declared.area.Area.TheVariants.{Ledger};
+ghost use Rattle.satp_base.specs.declared.ledger.LedgerKind.{LedgerKind};
+ghost use Rattle.satp_journal.specs.Appending.{AppendStops, RestsStill};
+ghost use Rattle.satp_journal.specs.Opening.{OpenAnswers, OpenStops, Rests};
+ghost use Rattle.satp_journal.specs.State.{Fits};
+ghost use Rattle.satp_records.specs.Formats.{payload_of};
+ghost use Rattle.satp_records.specs.declared.stored.Stored.TheVariants as stored;
+ghost use Rattle.satp_keeper.specs.Books.{Leaves, ledger_payloads};
+ghost use Rattle.satp_keeper.specs.Founding.{FoundStops, IsFoundFault};
+ghost use Rattle.satp_keeper.specs.Opening.{UnopenedBy};
+ghost use Rattle.satp_keeper.specs.Operating.{KeepAnswers, counted, faults_after, wants_after};
+
+use crate::fault::{KeeperFault, fault_of};
+use crate::founding::set_up;
+use crate::keep::keep;
+use crate::replay::read_ledger;
+use crate::tally::Tally;
+use satp_base::{
+    ActFault, Answer, Area, Device, Disk, Entry, Genesis, Ledger, LedgerCore, LedgerKind, LedgerOp,
+    SessionId, Terms,
+};
+use satp_journal::Journal;
+use std::alloc::Global;
+
+/// A disk on which no ledger was founded or opened, and why not.
+#[derive(Drop)]
+pub struct Unopened<D> {
+    pub disk: D,
+    pub fault: KeeperFault,
+}
+
+/// A ledger with a journal in the area `Ledger` of a disk.
+///
+/// Every operation that changes an entry is stored by one append before it is answered.
+/// After `Disk` the ledger tells nothing until it is opened again; what that opening finds is what the failed operation did.
+#[derive(Drop)]
+pub struct Kept<C: LedgerCore, D: Disk> {
+    alloc: Global,
+    kind: LedgerKind,
+    core: C,
+    disk: D,
+    journal: Journal,
+    broken: bool,
+    tally: Tally,
+    ghost area: { journal.held.area ≡ Ledger },
+    ghost whole: { broken ≡ journal.held.broken },
+    ghost fits: { broken ≡ false → Fits journal.held (D.told disk) },
+}
+
+/// Opens the journal of a ledger, and reads the ledger from it.
+fn open_ledger<C: LedgerCore, D: Disk>(
+    alloc: Global,
+    disk: &mut D,
+    kind: LedgerKind,
+) -> Result<(C, Journal), KeeperFault>
+    ensures opened { MatchResult result
+        (λ x. OpenAnswers Ledger (D.told disk.old) (D.told disk.new) (Ok x.1) × Leaves kind x.1.held.payloads (C.book x.0) × Rests (D.told disk.new) x.1.held × Fits x.1.held (D.told disk.new))
+        (λ fault. UnopenedBy kind (D.told disk.old) (D.told disk.new) fault) }
+    ensures stops { OpenStops Ledger (D.told disk.old) (D.told disk.new) }
+    ensures later { D.faults disk.old ≤ D.faults disk.new }
+    ensures cause { IfErr result (λ fault. fault ≡ KeeperFault.Disk → Rose (D.faults disk.old) (D.faults disk.new)) }
+{
+    let journal = match Journal::open(alloc, disk, Area::Ledger) {
+        Ok(journal) => journal,
+        Err(fault) => return Err(fault_of(fault)),
+    };
+    match read_ledger(alloc, &journal, kind) {
+        Ok(core) => Ok((core, journal)),
+        Err(fault) => Err(fault),
+    }
+}
+
+impl<C: LedgerCore, D: Disk> Kept<C, D> {
+    /// Writes a new ledger into the area `Ledger` of a disk, over what stood there. The disk is handed back where that failed.
+    ///
+    /// `Memory`, or `Disk`, which comes only where the disk's count of faults rose. `Damaged` comes exactly where the journal's opening behind the cut answers it, which a disk that tells never does.
+    pub fn found(alloc: Global, disk: D, genesis: &Genesis) -> Result<Kept<C, D>, Unopened<D>>
+        ensures found { IfOk result (λ k. (C.book k.core ≡ founded genesis.now) × (k.broken ≡ false) × Rests (D.told k.disk) k.journal.held × IfSome (D.told k.disk) (λ t. k.journal.held.payloads ≡ ledger_payloads k.kind genesis.now [])) }
+        ensures fault { IfErr result (λ u. IsFoundFault (D.told disk) u.fault) }
+        ensures stops { MatchResult result
+            (λ k. FoundStops (ledger_payloads k.kind genesis.now []) (D.told disk) (D.told k.disk))
+            (λ u. (kind : LedgerKind) × FoundStops (ledger_payloads kind genesis.now []) (D.told disk) (D.told u.disk)) }
+        ensures counts { IfOk result (λ k. (k.tally.faults ≡ 0) × (k.tally.wants ≡ 0)) }
+        ensures later { MatchResult result (λ k. D.faults disk ≤ D.faults k.disk) (λ u. D.faults disk ≤ D.faults u.disk) }
+        ensures cause { IfErr result (λ u. u.fault ≡ KeeperFault.Disk → Rose (D.faults disk) (D.faults u.disk)) }
+    {
+        let mut disk = disk;
+        let kind = C::KIND;
+        match set_up(alloc, &mut disk, kind, genesis) {
+            Ok((core, journal)) => Ok(Kept {
+                alloc,
+                kind,
+                core,
+                disk,
+                journal,
+                broken: false,
+                tally: Tally::new(),
+            }),
+            Err(fault) => Err(Unopened { disk, fault }),
+        }
+    }
+
+    /// Opens the ledger that a disk's area `Ledger` keeps. The disk is handed back where there is none.
+    ///
+    /// `Damaged` comes exactly where the journal's opening answers it, `Empty` where the journal has no record, and `Record` for the first record that may not stand where it does: one that doesn't decode, is in a wrong place, names another kind, is refused by the genesis, or isn't answered with `Done`.
+    /// `Disk` comes only where the disk's count of faults rose.
+    pub fn open(alloc: Global, disk: D) -> Result<Kept<C, D>, Unopened<D>>
+        ensures opened { MatchResult result
+            (λ k. OpenAnswers Ledger (D.told disk) (D.told k.disk) (Ok k.journal) × Leaves k.kind k.journal.held.payloads (C.book k.core) × Rests (D.told k.disk) k.journal.held × (k.broken ≡ false))
+            (λ u. (kind : LedgerKind) × UnopenedBy kind (D.told disk) (D.told u.disk) u.fault) }
+        ensures stops { MatchResult result (λ k. OpenStops Ledger (D.told disk) (D.told k.disk)) (λ u. OpenStops Ledger (D.told disk) (D.told u.disk)) }
+        ensures counts { IfOk result (λ k. (k.tally.faults ≡ 0) × (k.tally.wants ≡ 0)) }
+        ensures later { MatchResult result (λ k. D.faults disk ≤ D.faults k.disk) (λ u. D.faults disk ≤ D.faults u.disk) }
+        ensures cause { IfErr result (λ u. u.fault ≡ KeeperFault.Disk → Rose (D.faults disk) (D.faults u.disk)) }
+    {
+        let mut disk = disk;
+        let kind = C::KIND;
+        match open_ledger(alloc, &mut disk, kind) {
+            Ok((core, journal)) => Ok(Kept {
+                alloc,
+                kind,
+                core,
+                disk,
+                journal,
+                broken: false,
+                tally: Tally::new(),
+            }),
+            Err(fault) => Err(Unopened { disk, fault }),
+        }
+    }
+
+    /// Asks for an operation, without counting faults of the keeper's own.
+    fn operate(
+        &mut self,
+        op: LedgerOp,
+        session: SessionId,
+        terms: &Terms,
+    ) -> Result<Answer, KeeperFault>
+        ensures answers { KeepAnswers op session terms.now (C.book self.old.core) (C.book self.new.core) self.old.journal.held self.new.journal.held (D.told self.old.disk) (D.told self.new.disk) result }
+        ensures stops { AppendStops (payload_of (stored.Act op session terms.now)) self.old.journal.held (D.told self.old.disk) (D.told self.new.disk) }
+        ensures rests { self.new.broken ≡ false → RestsStill Ledger self.old.journal.held.payloads self.new.journal.held.payloads (D.told self.old.disk) (D.told self.new.disk) }
+        ensures leaves { (kind : LedgerKind) → Leaves kind self.old.journal.held.payloads (C.book self.old.core) → self.new.broken ≡ false → Leaves kind self.new.journal.held.payloads (C.book self.new.core) }
+        ensures tally { self.new.tally ≡ self.old.tally }
+        ensures later { D.faults self.old.disk ≤ D.faults self.new.disk }
+        ensures disk { IfErr result (λ fault. fault ≡ KeeperFault.Disk → Rose (D.faults self.old.disk) (D.faults self.new.disk)) }
+    {
+        if self.broken {
+            return Err(KeeperFault::Broken);
+        }
+        match keep(
+            self.alloc,
+            &mut self.core,
+            &mut self.journal,
+            &mut self.disk,
+            op,
+            session,
+            terms,
+        ) {
+            Ok(answer) => Ok(answer),
+            Err(fault) => {
+                self.broken = is_disk(fault);
+                Err(fault)
+            }
+        }
+    }
+
+    /// Operates on the entry of a session, and answers as the core does. One append stores an operation that changes an entry; every other operation leaves the disk alone.
+    ///
+    /// `Memory` leaves all as it was, and comes before any call on the disk. `Disk` comes only where the disk's count of faults rose, and `Broken` exactly where a call answered `Disk` before.
+    pub fn act(
+        &mut self,
+        op: LedgerOp,
+        session: SessionId,
+        terms: &Terms,
+    ) -> Result<Answer, KeeperFault>
+        ensures answers { KeepAnswers op session terms.now (C.book self.old.core) (C.book self.new.core) self.old.journal.held self.new.journal.held (D.told self.old.disk) (D.told self.new.disk) result }
+        ensures stops { AppendStops (payload_of (stored.Act op session terms.now)) self.old.journal.held (D.told self.old.disk) (D.told self.new.disk) }
+        ensures rests { self.new.broken ≡ false → RestsStill Ledger self.old.journal.held.payloads self.new.journal.held.payloads (D.told self.old.disk) (D.told self.new.disk) }
+        ensures leaves { (kind : LedgerKind) → Leaves kind self.old.journal.held.payloads (C.book self.old.core) → self.new.broken ≡ false → Leaves kind self.new.journal.held.payloads (C.book self.new.core) }
+        ensures faults { self.new.tally.faults ≡ counted faults_after self.old.tally.faults result }
+        ensures wants { self.new.tally.wants ≡ counted wants_after self.old.tally.wants result }
+        ensures later { D.faults self.old.disk ≤ D.faults self.new.disk }
+        ensures disk { IfErr result (λ fault. fault ≡ KeeperFault.Disk → Rose (D.faults self.old.disk) (D.faults self.new.disk)) }
+        ensures cause { HasCause (D.faults self.old.disk + self.old.tally.faults) (D.faults self.new.disk + self.new.tally.faults) result }
+    {
+        match self.operate(op, session, terms) {
+            Ok(answer) => Ok(answer),
+            Err(fault) => {
+                self.tally.note(fault);
+                Err(fault)
+            }
+        }
+    }
+
+    /// The ledger itself. Where the keeper is broken it may stand one operation behind what it tells.
+    pub fn core(&self) -> &C
+        ensures { result.now ≡ self.now.core }
+    {
+        &self.core
+    }
+
+    /// How many calls found no memory. The number stands still at its end.
+    pub fn wants(&self) -> u64
+        ensures { result ≡ self.now.tally.wants }
+    {
+        self.tally.wants
+    }
+
+    /// The disk as it is.
+    pub fn into_disk(self) -> D
+        ensures { result ≡ self.disk }
+    {
+        let Kept { disk, .. } = self;
+        disk
+    }
+}
+
+fn is_disk(fault: KeeperFault) -> bool
+    ensures { IsTrue result ↔ (fault ≡ KeeperFault.Disk) }
+{
+    matches!(fault, KeeperFault::Disk)
+}
+
+impl<C: LedgerCore, D: Disk> Device for Kept<C, D> {
+    ghost told = { λ k. None };
+
+    ghost book = { λ k. if k.broken then None else Some (C.book k.core) };
+
+    ghost faults = { λ k. D.faults k.disk + k.tally.faults };
+
+    ghost keeps_model = { λ k t is. Prim.cc };
+}
+
+impl<C: LedgerCore, D: Disk> Ledger for Kept<C, D> {
+    fn act(
+        &mut self,
+        op: LedgerOp,
+        session: SessionId,
+        terms: &Terms,
+    ) -> Result<Answer, ActFault> {
+        match Kept::act(self, op, session, terms) {
+            Ok(answer) => Ok(answer),
+            Err(KeeperFault::OutOfOrder { entry }) => Err(ActFault::OutOfOrder { entry }),
+            Err(_) => Err(ActFault::Failed),
+        }
+    }
+
+    fn look(&mut self, session: SessionId) -> Result<Entry, ActFault> {
+        if self.broken {
+            self.tally.note(KeeperFault::Broken);
+            return Err(ActFault::Failed);
+        }
+        Ok(self.core.entry(session))
+    }
+}

@@ -1,0 +1,4 @@
+pub mod OutputLemmas
+pub mod BeginLemmas
+pub mod MoveLemmas
+pub mod NumberLemmas

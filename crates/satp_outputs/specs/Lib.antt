@@ -1,0 +1,4 @@
+pub mod Unspent
+pub mod Steps
+pub mod States
+pub mod Laws

@@ -1,0 +1,4 @@
+mod FieldLemmas
+mod Picks
+mod RoundLemmas
+mod VerbLemmas

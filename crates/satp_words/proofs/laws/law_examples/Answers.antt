@@ -1,0 +1,38 @@
+use Rattle.std.proofs.Common.{refl}
+use Rattle.clap.proofs.OnLiterals.{clap_on_literals}
+use Rattle.satp_words.proofs.laws.law_examples.Goals as goal
+
+pub returns-clause-takes : goal.returns-clause-takes
+unfolding clap_on_literals
+returns-clause-takes c = record {
+  apart_and_attached = refl;
+  empty_attached = refl;
+  empty_apart = refl;
+  equals = refl;
+  dash_apart = refl;
+  dash_attached = refl;
+  end = refl;
+}
+
+pub returns-clause-refuses : goal.returns-clause-refuses
+unfolding clap_on_literals
+returns-clause-refuses c = record {
+  dash = refl;
+  option_value = refl;
+  twice = refl;
+  behind_end = refl;
+  two_ends = refl;
+  end_as_value = refl;
+  missing = refl;
+}
+
+pub returns-clause-check : goal.returns-clause-check
+unfolding clap_on_literals
+returns-clause-check c = record {
+  none = refl;
+  no_key = refl;
+  help = refl;
+  short_help = refl;
+  help_word = refl;
+  part_of_name = refl;
+}

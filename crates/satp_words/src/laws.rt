@@ -1,0 +1,11 @@
+//! What the definitions say of words that are written out. It stands over definitions alone and makes no call.
+
+ghost use Rattle.satp_words.specs.Examples.{ChecksWords, RefusesOptions, TakesOptions};
+
+/// A command takes an option as `--name value` and as `--name=value`, in any order, once, and one `--` at the end; and
+/// `check` knows no help.
+pub fn law_examples()
+    ensures takes { TakesOptions }
+    ensures refuses { RefusesOptions }
+    ensures check { ChecksWords }
+{}

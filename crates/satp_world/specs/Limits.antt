@@ -1,0 +1,62 @@
+-- What no move does: the near misses of the moves that are possible.
+use Rattle.std.specs.Prelude.{◌≡◌, ◌≢◌, ℕ, ◌+◌, ◌≤◌, List, [], length, slice_get, Some, IsFalse}
+use Rattle.satp_base.specs.Chains.{message_at, role_at}
+use Rattle.satp_base.specs.Forms.{IsMessage}
+use Rattle.satp_base.specs.Founding.{Founding}
+use Rattle.satp_base.specs.Signatures.{own}
+use Rattle.satp_base.specs.Tales.{has}
+use Rattle.satp_base.specs.declared.ledger.Entry.TheVariants.{Burnt}
+use Rattle.satp_base.specs.declared.message.Body.{Body}
+use Rattle.satp_base.specs.declared.message.Body.TheVariants as body
+use Rattle.satp_base.specs.declared.message.Kind.TheVariants.{CommitReady}
+use Rattle.satp_base.specs.declared.message.Link.{Link}
+use Rattle.satp_base.specs.declared.message.Message.{Message}
+use Rattle.satp_base.specs.declared.message.Part.{Part}
+use Rattle.satp_base.specs.declared.message.Role.{Role}
+use Rattle.satp_base.specs.declared.session.SessionId.{SessionId}
+use Rattle.satp_world.specs.Sessions.{tale_of}
+use Rattle.satp_world.specs.Worlds.{Among, Delivered, Gateway, Reached, Sayable, Setting, Text, World, WorldMoves, begun, chain_in, maker_side, message_from, most_sessions, name_at, opposite, records_of, session_in, side_at}
+
+-- what an update carries is at most two texts
+abbrev pub HasFewEntries : Body → Type 0
+HasFewEntries b = (n : ℕ) (entries : List Text) → b ≡ body.Update n entries → length entries ≤ 2
+
+-- the text is that of one message of this gateway, with at most two entries
+pub record IsOneOf (st : Setting) (t : Text) : Type 0 where
+  pub message : Message
+  pub formed : IsMessage message
+  pub text : t ≡ own st.key message
+  pub few : HasFewEntries message.body
+
+-- a `recover` of the session was sent to this gateway by the peer whose session it is
+pub record WasAsked (st : Setting) (w : World) (g : Gateway) (s : SessionId) : Type 0 where
+  pub of_the_peer : s.gateway ≡ name_at st (opposite g)
+  pub message : Message
+  pub formed : IsMessage message
+  pub of_it : message.session ≡ s
+  pub to_it : message.receiver ≡ name_at st g
+  pub length : ℕ
+  pub last : Link
+  pub recover : message.body ≡ body.Recover length last
+  pub said : Among (own st.key message) w.bag
+
+-- What no move of a world does.
+pub record IsLimited (st : Setting) (w : World) : Type 0 where
+  -- nothing is burnt before commit-ready stands in the recipient's chain
+  pub no_early_burn : (g : Gateway) (s : SessionId) → s.gateway ≡ name_at st g → (v : World) → WorldMoves st w v → IsFalse (has CommitReady (tale_of (session_in w g s).b)) → (session_in v g s).a_entry ≢ Burnt
+  -- a text that its maker's chain doesn't hold was never delivered, so that nobody takes it
+  pub no_forgery : (t : Text) (g : Gateway) (s : SessionId) → s.gateway ≡ name_at st g → (n : ℕ) (previous : Link) (part : Part)
+      → IsMessage (message_at s (name_at st (opposite g)) (n + 1) previous part) → t ≡ own st.key (message_at s (name_at st (opposite g)) (n + 1) previous part)
+      → slice_get (chain_in s (side_at w (maker_side g (role_at (n + 1)))).records) n ≢ Some t → ¬ Delivered st w.bag t
+  -- no update of three messages is said
+  pub no_long_update : (g : Gateway) (t : Text) → Sayable st g (side_at w g).records w.bag t → IsOneOf st t
+  -- nothing is said of a session that the records don't name, unless the peer asked
+  pub no_idle_answer : (g : Gateway) (s : SessionId) → records_of s (side_at w g).records ≡ [] → Sayable st g (side_at w g).records w.bag (own st.key (message_from st g s (body.Update 0 []))) → WasAsked st w g s
+  -- a gateway begins at most 2,048 sessions in each role
+  pub no_more_sessions : (g : Gateway) (role : Role) → begun role (side_at w g).records ≤ most_sessions
+
+-- and before anything is stored or said, there is nothing to say
+abbrev pub LawLimits : Type 0
+LawLimits =
+    ((st : Setting) (a b : Founding) (w : World) → Reached st a b w → IsLimited st w)
+    × ((st : Setting) (g : Gateway) (t : Text) → ¬ Sayable st g [] [] t)

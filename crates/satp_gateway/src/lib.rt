@@ -5,6 +5,8 @@ mod fault;
 mod gateway;
 mod payload;
 mod set_up;
+#[cfg(test)]
+mod tests;
 
 pub use fault::SetUpFault;
 pub use gateway::Gateway;

@@ -3,7 +3,8 @@
 
 use satp_app::run;
 use satp_base::{Memory, Text, Texts};
-use satp_devices::{Input, Output};
+use satp_devices::{FileDisk, Input, Output};
+use satp_site::RealSite;
 use std::env;
 use std::io::ErrorKind;
 use std::process::ExitCode;
@@ -16,10 +17,18 @@ fn main(rt: HostRuntime) -> ExitCode {
         Ok(words) => words,
         Err(Memory) => return ExitCode::from(NO_MEMORY),
     };
+    let mut site = RealSite::new(FileDisk::new(&rt, rt.alloc()), rt.alloc());
     let mut input = Input::new(rt.stdin());
     let mut out = Output::new(rt.stdout());
     let mut err = Output::new(rt.stderr());
-    ExitCode::from(run(rt.alloc(), &words, &mut input, &mut out, &mut err))
+    ExitCode::from(run(
+        rt.alloc(),
+        &words,
+        &mut site,
+        &mut input,
+        &mut out,
+        &mut err,
+    ))
 }
 
 /// The words behind the program's name.

@@ -3,3 +3,5 @@ pub mod Writing
 pub mod Ends
 pub mod Inputs
 pub mod Lines
+pub mod Genesis
+pub mod Vacant

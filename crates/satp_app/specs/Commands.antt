@@ -2,6 +2,7 @@
 use Rattle.std.specs.Prelude.{◌≡◌, ◌⊎◌, ℕ, List, Option, Some, None}
 use Rattle.satp_app.specs.Answer.{answer_says}
 use Rattle.satp_app.specs.Check.{check_says, signed_says}
+use Rattle.satp_app.specs.Init.{InitRule, order, setup_of}
 use Rattle.satp_app.specs.Outcomes.{line_of, status_of}
 use Rattle.satp_app.specs.Outside.{OutsideState, Printed, PrintedPart, SinkState}
 use Rattle.satp_app.specs.Streams.{StreamRule}
@@ -10,13 +11,14 @@ use Rattle.satp_app.specs.declared.outcome.Outcome.{Outcome}
 use Rattle.satp_app.specs.declared.outcome.Outcome.TheVariants.{WordsRefused, Memory}
 use Rattle.satp_words.specs.Commands.{IsListed, NotListed}
 use Rattle.satp_words.specs.declared.command.Command.{Command}
-use Rattle.satp_words.specs.declared.command.Command.TheVariants.{Answer, Check}
+use Rattle.satp_words.specs.declared.command.Command.TheVariants.{Answer, Check, Init}
 
 -- One line for each command: how it ends, and how the outside then stands.
 abbrev pub CommandRule : Command → OutsideState → OutsideState → Outcome → Type 0
-CommandRule (Answer name) b a outcome = StreamRule text_form (answer_says name) b.streams a.streams outcome
-CommandRule (Check None) b a outcome = StreamRule text_form check_says b.streams a.streams outcome
-CommandRule (Check (Some key)) b a outcome = StreamRule text_form (signed_says key) b.streams a.streams outcome
+CommandRule (Answer name) b a outcome = StreamRule text_form (answer_says name) b.streams a.streams outcome × (a.site ≡ b.site)
+CommandRule (Check None) b a outcome = StreamRule text_form check_says b.streams a.streams outcome × (a.site ≡ b.site)
+CommandRule (Check (Some key)) b a outcome = StreamRule text_form (signed_says key) b.streams a.streams outcome × (a.site ≡ b.site)
+CommandRule (Init dir name peer at key ledger) b a outcome = InitRule (order dir (setup_of name peer at key) ledger) b a outcome
 
 -- the command that the words list ends so
 abbrev pub Listed : List (List ℕ) → OutsideState → OutsideState → Outcome → Type 0

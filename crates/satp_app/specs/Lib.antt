@@ -4,4 +4,5 @@ pub mod Streams
 pub mod Texts
 pub mod Answer
 pub mod Check
+pub mod Init
 pub mod Commands

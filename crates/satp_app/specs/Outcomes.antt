@@ -6,7 +6,7 @@ use Rattle.satp_canon.specs.declared.fault.CanonFault.TheVariants as canon
 use Rattle.satp_jws.specs.declared.fault.JwsFault.{JwsFault}
 use Rattle.satp_jws.specs.declared.fault.JwsFault.TheVariants as jws
 use Rattle.satp_app.specs.declared.outcome.Outcome.{Outcome}
-use Rattle.satp_app.specs.declared.outcome.Outcome.TheVariants.{Done, WordsRefused, InputLong, Refused, Memory, InputFailed, OutputFailed}
+use Rattle.satp_app.specs.declared.outcome.Outcome.TheVariants.{Done, WordsRefused, InputLong, Refused, Memory, InputFailed, OutputFailed, GenesisRefused, SiteFailed, JournalDamaged, GatewayThere}
 use Rattle.satp_app.specs.declared.outcome.Refusal.{Refusal}
 use Rattle.satp_app.specs.declared.outcome.Refusal.TheVariants as refusal
 
@@ -22,6 +22,10 @@ status_of (Refused reason) = refusal_status reason
 status_of Memory = 10
 status_of InputFailed = 11
 status_of OutputFailed = 11
+status_of (GenesisRefused number) = 5
+status_of SiteFailed = 8
+status_of (JournalDamaged at) = 9
+status_of GatewayThere = 13
 
 -- a line: a text, what it speaks of, and a newline
 abbrev pub line : List ℕ → List ℕ → List ℕ
@@ -60,3 +64,7 @@ line_of (Refused reason) = refusal_line reason
 line_of Memory = line (codes "satp: no memory") []
 line_of InputFailed = line (codes "satp: input failed") []
 line_of OutputFailed = line (codes "satp: output failed") []
+line_of (GenesisRefused number) = codes "satp: genesis line " ++ (decimal number ++ codes " refused" ++ 10 ∷ [])
+line_of SiteFailed = line (codes "satp: site failed") []
+line_of (JournalDamaged at) = line (codes "satp: journal damaged at ") (decimal at)
+line_of GatewayThere = line (codes "satp: gateway is there") []

@@ -1,6 +1,8 @@
 -- Everything outside of the program, as it stands: for each device its count of faults, and what it tells.
 use Rattle.std.specs.Prelude.{◌≡◌, ℕ, ◌<◌, ◌≤◌, List, ◌++◌, length, take, drop, Option, Some, IfSome, Result, MatchResult}
 use Rattle.satp_base.specs.declared.stream.SinkFault.{SinkFault}
+use Rattle.satp_base.specs.Calls.{Told}
+use Rattle.satp_base.specs.Money.{Book}
 use Rattle.satp_base.specs.Streams.{Rose}
 
 pub record SourceState : Type 0 where
@@ -17,8 +19,16 @@ pub record StreamsState : Type 0 where
   pub input : SourceState
   pub out : SinkState
 
+pub record SiteState : Type 0 where
+  pub faults : ℕ
+  -- the calls on it
+  pub told : Option Told
+  -- its ledger
+  pub book : Option Book
+
 pub record OutsideState : Type 0 where
   pub streams : StreamsState
+  pub site : SiteState
 
 abbrev pub source : {S : Type 0} → (S → ℕ) → (S → Option (List ℕ)) → S → SourceState
 source faults left s = record { faults = faults s; left = left s }
@@ -29,8 +39,11 @@ sink faults taken s = record { faults = faults s; taken = taken s }
 abbrev pub streams : SourceState → SinkState → StreamsState
 streams i o = record { input = i; out = o }
 
-abbrev pub outside : StreamsState → OutsideState
-outside s = record { streams = s }
+abbrev pub site_state : {S : Type 0} → (S → ℕ) → (S → Option Told) → (S → Option Book) → S → SiteState
+site_state faults told book s = record { faults = faults s; told = told s; book = book s }
+
+abbrev pub outside : StreamsState → SiteState → OutsideState
+outside s d = record { streams = s; site = d }
 
 -- ---- changes of a source
 

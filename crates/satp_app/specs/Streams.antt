@@ -5,7 +5,7 @@ use Rattle.satp_base.specs.Streams.{Rose}
 use Rattle.satp_base.specs.declared.text.Memory as base
 use Rattle.satp_app.specs.Outside.{Printed, PrintedPart, ReadTo, ReadWithin, SinkState, SourceState, StreamsState}
 use Rattle.satp_app.specs.declared.outcome.Outcome.{Outcome}
-use Rattle.satp_app.specs.declared.outcome.Outcome.TheVariants.{Done, WordsRefused, InputLong, Refused, Memory, InputFailed, OutputFailed}
+use Rattle.satp_app.specs.declared.outcome.Outcome.TheVariants.{Done, WordsRefused, InputLong, Refused, Memory, InputFailed, OutputFailed, GenesisRefused, SiteFailed, JournalDamaged, GatewayThere}
 use Rattle.satp_app.specs.declared.reply.Reply.{Reply}
 use Rattle.satp_app.specs.declared.reply.Reply.TheVariants.{Lines, Refuses}
 
@@ -42,6 +42,10 @@ StreamRule form says b a InputLong = ReadTo (form.most + 1) b.input a.input × I
 StreamRule form says b a InputFailed = Rose b.input.faults a.input.faults × ReadWithin (form.most + 1) b.input a.input × (a.out ≡ b.out)
 StreamRule form says b a Memory = (a.input.faults ≡ b.input.faults) × ReadWithin (form.most + 1) b.input a.input × (a.out ≡ b.out)
 StreamRule form says b a WordsRefused = ⊥
+StreamRule form says b a (GenesisRefused number) = ⊥
+StreamRule form says b a SiteFailed = ⊥
+StreamRule form says b a (JournalDamaged at) = ⊥
+StreamRule form says b a GatewayThere = ⊥
 
 -- ---- its parts
 

@@ -6,6 +6,7 @@
 
 mod answer_command;
 mod check_command;
+mod init_command;
 mod outcome;
 mod reply;
 mod report;

@@ -21,6 +21,14 @@ pub enum Outcome {
     InputFailed,
     /// A write of the output failed.
     OutputFailed,
+    /// This line of the input, from 1, is no line of a genesis, or may not stand there.
+    GenesisRefused { number: u32 },
+    /// A call on the site failed.
+    SiteFailed,
+    /// At this place of the journal stands the first open gate without a whole record behind it.
+    JournalDamaged { at: u64 },
+    /// The journal has a record: a gateway was set up there before.
+    GatewayThere,
 }
 
 /// Why a command refuses what it read.
@@ -45,9 +53,12 @@ impl Outcome {
             Outcome::Done => 0,
             Outcome::WordsRefused => 2,
             Outcome::Refused(Refusal::Receiver) => 4,
-            Outcome::InputLong | Outcome::Refused(_) => 5,
+            Outcome::InputLong | Outcome::Refused(_) | Outcome::GenesisRefused { .. } => 5,
+            Outcome::SiteFailed => 8,
+            Outcome::JournalDamaged { .. } => 9,
             Outcome::Memory => 10,
             Outcome::InputFailed | Outcome::OutputFailed => 11,
+            Outcome::GatewayThere => 13,
         }
     }
 }

@@ -25,6 +25,14 @@ pub(crate) fn report<E: Sink>(err: &mut E, outcome: Outcome) -> Result<(), SinkF
         Outcome::Memory => say(err, b"satp: no memory\n"),
         Outcome::InputFailed => say(err, b"satp: input failed\n"),
         Outcome::OutputFailed => say(err, b"satp: output failed\n"),
+        Outcome::GenesisRefused { number } => {
+            say_numbered(err, b"satp: genesis line ", number as usize, b" refused\n")
+        }
+        Outcome::SiteFailed => say(err, b"satp: site failed\n"),
+        Outcome::JournalDamaged { at } => {
+            say_number(err, b"satp: journal damaged at ", at as usize)
+        }
+        Outcome::GatewayThere => say(err, b"satp: gateway is there\n"),
     }
 }
 
@@ -74,6 +82,44 @@ fn say_number<E: Sink>(err: &mut E, text: &[u8], number: usize) -> Result<(), Si
 {
     let mut buffer = Buffer::new();
     say_line(err, text, buffer.format(number).as_bytes())
+}
+
+/// Writes a number between two texts.
+fn say_numbered<E: Sink>(
+    err: &mut E,
+    text: &[u8],
+    number: usize,
+    end: &[u8],
+) -> Result<(), SinkFault>
+    ensures { Says (text.now ++ (decimal number ++ end.now)) (sink E.faults E.taken err.old) (sink E.faults E.taken err.new) result }
+{
+    let mut buffer = Buffer::new();
+    say_three(err, text, buffer.format(number).as_bytes(), end)
+}
+
+/// Writes three texts.
+fn say_three<E: Sink>(
+    err: &mut E,
+    first: &[u8],
+    second: &[u8],
+    third: &[u8],
+) -> Result<(), SinkFault>
+    ensures { Says (first.now ++ (second.now ++ third.now)) (sink E.faults E.taken err.old) (sink E.faults E.taken err.new) result }
+{
+    match say(err, first) {
+        Ok(()) => say_both(err, second, third),
+        Err(fault) => Err(fault),
+    }
+}
+
+/// Writes two texts.
+pub(crate) fn say_both<E: Sink>(err: &mut E, first: &[u8], second: &[u8]) -> Result<(), SinkFault>
+    ensures { Says (first.now ++ second.now) (sink E.faults E.taken err.old) (sink E.faults E.taken err.new) result }
+{
+    match say(err, first) {
+        Ok(()) => say(err, second),
+        Err(fault) => Err(fault),
+    }
 }
 
 /// Writes a line of two texts.

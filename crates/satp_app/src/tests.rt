@@ -1,8 +1,9 @@
 ghost use Rattle.std.specs.Prelude.{Some, ◌^◌, ◌-◌};
 
 use crate::run;
-use satp_base::{Memory, Sink, SinkFault, Text, Texts};
-use satp_memory::{MemSink, MemSource};
+use satp_accounts::Accounts;
+use satp_base::{Area, Disk, Memory, Sink, SinkFault, Text, Texts};
+use satp_memory::{MemSink, MemSite, MemSource};
 use std::alloc::Global;
 use std::test::Fail;
 
@@ -41,11 +42,22 @@ struct Ran {
 }
 
 fn run_with(alloc: Global, list: &[&str], input: &[u8]) -> Result<Ran, Memory> {
+    let mut site: MemSite<Accounts> = MemSite::new(alloc)?;
+    run_at(alloc, &mut site, list, input)
+}
+
+/// A run at a site.
+fn run_at(
+    alloc: Global,
+    site: &mut MemSite<Accounts>,
+    list: &[&str],
+    input: &[u8],
+) -> Result<Ran, Memory> {
     let words = words(alloc, list)?;
     let mut input = MemSource::new(alloc, input)?;
     let mut out = MemSink::new(alloc)?;
     let mut err = MemSink::new(alloc)?;
-    let status = run(alloc, &words, &mut input, &mut out, &mut err);
+    let status = run(alloc, &words, site, &mut input, &mut out, &mut err);
     Ok(Ran { status, out, err })
 }
 
@@ -123,17 +135,24 @@ fn signatures_are_checked(rt: HostRuntime) -> Result<(), Fail> {
 fn failures_of_devices(rt: HostRuntime) -> Result<(), Fail> {
     let alloc = rt.alloc();
     let words = words(alloc, &["answer", "beta"])?;
+    let mut site: MemSite<Accounts> = MemSite::new(alloc)?;
     let mut input = MemSource::new(alloc, PROPOSAL)?;
     let mut out = MemSink::new(alloc)?;
     let mut err = MemSink::new(alloc)?;
     input.fail(2)?;
-    assert_eq!(rt; run(alloc, &words, &mut input, &mut out, &mut err), 11);
+    assert_eq!(rt;
+        run(alloc, &words, &mut site, &mut input, &mut out, &mut err),
+        11
+    );
     assert_eq!(rt; out.bytes().len(), 0);
     assert_eq!(rt; err.bytes(), b"satp: input failed\n".as_slice());
 
     let mut input = MemSource::new(alloc, PROPOSAL)?;
     out.fail(1)?;
-    assert_eq!(rt; run(alloc, &words, &mut input, &mut out, &mut err), 11);
+    assert_eq!(rt;
+        run(alloc, &words, &mut site, &mut input, &mut out, &mut err),
+        11
+    );
     assert_eq!(rt; out.bytes().len(), 0);
     Ok(())
 }
@@ -162,12 +181,127 @@ impl Sink for Slow {
 fn a_slow_output_gets_all(rt: HostRuntime) -> Result<(), Fail> {
     let alloc = rt.alloc();
     let words = words(alloc, &["answer", "beta"])?;
+    let mut site: MemSite<Accounts> = MemSite::new(alloc)?;
     let mut input = MemSource::new(alloc, PROPOSAL)?;
     let mut out = Slow {
         bytes: Text::copy(alloc, b"")?,
     };
     let mut err = MemSink::new(alloc)?;
-    assert_eq!(rt; run(alloc, &words, &mut input, &mut out, &mut err), 0);
+    assert_eq!(rt;
+        run(alloc, &words, &mut site, &mut input, &mut out, &mut err),
+        0
+    );
     assert_eq!(rt; out.bytes.bytes(), RECEIPT);
+    Ok(())
+}
+
+const INIT: [&str; 13] = [
+    "init",
+    "--dir",
+    "d",
+    "--name",
+    "alpha",
+    "--peer",
+    "beta",
+    "--at",
+    "127.0.0.1:1",
+    "--key",
+    KEY,
+    "--ledger",
+    "accounts",
+];
+
+#[test]
+fn a_gateway_is_set_up_once(rt: HostRuntime) -> Result<(), Fail> {
+    let alloc = rt.alloc();
+    let mut site: MemSite<Accounts> = MemSite::new(alloc)?;
+    let first = run_at(alloc, &mut site, &INIT, b"asset gold 100\n")?;
+    assert_eq!(rt; first.status, 0);
+    assert_eq!(rt; first.out.bytes(), b"alpha ready\n".as_slice());
+    let again = run_at(alloc, &mut site, &INIT, b"asset gold 100\n")?;
+    assert_eq!(rt; again.status, 13);
+    assert_eq!(rt; again.err.bytes(), b"satp: gateway is there\n".as_slice());
+    Ok(())
+}
+
+#[test]
+fn a_genesis_is_refused(rt: HostRuntime) -> Result<(), Fail> {
+    let refused = run_with(rt.alloc(), &INIT, b"asset gold 0\n")?;
+    assert_eq!(rt; refused.status, 5);
+    assert_eq!(rt;
+        refused.err.bytes(),
+        b"satp: genesis line 1 refused\n".as_slice()
+    );
+    Ok(())
+}
+
+#[test]
+fn damage_is_told(rt: HostRuntime) -> Result<(), Fail> {
+    let alloc = rt.alloc();
+    let mut site: MemSite<Accounts> = MemSite::new(alloc)?;
+    assert!(rt;
+        site.write(Area::JournalA, 0, b"\x01\x00\x03abc\x01")
+            .is_ok()
+    );
+    let damaged = run_at(alloc, &mut site, &INIT, b"")?;
+    assert_eq!(rt; damaged.status, 9);
+    assert_eq!(rt;
+        damaged.err.bytes(),
+        b"satp: journal damaged at 6\n".as_slice()
+    );
+    Ok(())
+}
+
+#[test]
+fn a_long_genesis_is_refused(rt: HostRuntime) -> Result<(), Fail> {
+    let mut genesis = Text::copy(rt.alloc(), b"x")?;
+    for _ in 0..64 {
+        genesis.append(&[b'x'; 1024])?;
+    }
+    let long = run_with(rt.alloc(), &INIT, genesis.bytes())?;
+    assert_eq!(rt; long.status, 5);
+    assert_eq!(rt; long.err.bytes(), b"satp: input too long\n".as_slice());
+    Ok(())
+}
+
+const GENESIS: &[u8] = b"asset gold 100\nhold gold ann 10\n";
+
+#[test]
+fn each_call_on_the_site_may_fail(rt: HostRuntime) -> Result<(), Fail> {
+    let alloc = rt.alloc();
+    let mut whole: MemSite<Accounts> = MemSite::new(alloc)?;
+    assert_eq!(rt; run_at(alloc, &mut whole, &INIT, GENESIS)?.status, 0);
+    assert!(rt; whole.count() >= 10);
+    for call in 1..=whole.count() {
+        let mut site: MemSite<Accounts> = MemSite::new(alloc)?;
+        site.fail(call)?;
+        let failed = run_at(alloc, &mut site, &INIT, GENESIS)?;
+        assert_eq!(rt; failed.status, 8, "at {call}");
+        assert_eq!(rt; failed.err.bytes(), b"satp: site failed\n".as_slice());
+    }
+    Ok(())
+}
+
+/// The status of an `init` that stops after so many events, and that of one behind the restart.
+fn statuses_around_a_stop(alloc: Global, event: u64, pick: u32) -> Result<(u8, u8), Memory> {
+    let mut site: MemSite<Accounts> = MemSite::new(alloc)?;
+    site.stop_at(event, pick);
+    let stopped = run_at(alloc, &mut site, &INIT, GENESIS)?;
+    site.restart()?;
+    let again = run_at(alloc, &mut site, &INIT, GENESIS)?;
+    Ok((stopped.status, again.status))
+}
+
+// The events are: sync, a closed gate, sync, and with the genesis read: sync, the founding, the record, sync, the
+// open gate, sync.
+#[test]
+fn a_stop_leaves_no_gateway_or_a_whole_one(rt: HostRuntime) -> Result<(), Fail> {
+    for event in 0..9 {
+        for pick in [0, 1, 7] {
+            let again = if event == 8 && pick == 1 { 13 } else { 0 };
+            let statuses = statuses_around_a_stop(rt.alloc(), event, pick)?;
+            assert_eq!(rt; statuses, (8, again), "at {event}, {pick}");
+        }
+    }
     Ok(())
 }

@@ -12,4 +12,5 @@ mod streams;
 mod tests;
 
 pub use disk::FileDisk;
+pub use faults::counted;
 pub use streams::{Input, Output};

@@ -2,12 +2,14 @@
 #![tactic(auto)]
 
 mod command;
+mod init_words;
 mod keys;
 mod laws;
 mod options;
 mod reader;
 #[cfg(test)]
 mod tests;
+mod values;
 
 pub use command::{Command, WordsFault};
 pub use laws::law_examples;

@@ -5,6 +5,7 @@ ghost use Rattle.satp_words.specs.Commands.{Begins, HasCheck, IsListed, NotListe
 ghost use Rattle.satp_words.specs.Options.{HasMatches, Takes};
 
 use crate::command::{Command, WordsFault};
+use crate::init_words::init;
 use crate::keys::key;
 use crate::options::{CommandOption, matches, texts_of};
 use clap::ArgMatches;
@@ -27,6 +28,8 @@ pub fn read(alloc: Global, words: &Texts) -> Result<Command, WordsFault>
         answer(words)
     } else if first.bytes() == b"check".as_slice() {
         check(alloc, words)
+    } else if first.bytes() == b"init".as_slice() {
+        init(alloc, words)
     } else {
         Err(WordsFault::Refused)
     }

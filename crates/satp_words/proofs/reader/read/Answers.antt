@@ -8,3 +8,6 @@ answer-requires c = begins c.args.words.now c.in-Some.first.now (codes "answer")
 
 pub check-requires : goal.check-requires
 check-requires c = begins c.args.words.now c.in-Some.first.now (codes "check") c.in-Some.ensures (sym c.bytes-else-eq.ensures ∙ same_text _ _ c.if-eq-2.ensures ∙ c.as_slice-else-eq.ensures)
+
+pub init-requires : goal.init-requires
+init-requires c = begins c.args.words.now c.in-Some.first.now (codes "init") c.in-Some.ensures (sym c.bytes-else-eq-2.ensures ∙ same_text _ _ c.if-eq-3.ensures ∙ c.as_slice-else-eq-2.ensures)

@@ -1,0 +1,7 @@
+//! Tests of a journal over a disk in memory: stops in an append, and a long list.
+#![tactic(auto)]
+
+#[cfg(test)]
+mod long_tests;
+#[cfg(test)]
+mod stop_tests;

@@ -1,0 +1,5 @@
+//! Tests of the two ledgers against each other.
+#![tactic(auto)]
+
+#[cfg(test)]
+mod ledger_tests;

@@ -1,0 +1,80 @@
+ghost use Rattle.std.specs.Prelude.{◌≡◌, ◌≢◌, ℕ, List, IfOk, Err, Some};
+ghost use Rattle.clap.specs.Words.{first_value, found_of};
+ghost use Rattle.satp_base.specs.Values.{address_text, name_text};
+ghost use Rattle.satp_base.specs.declared.address.Address.{Address};
+ghost use Rattle.satp_base.specs.declared.ledger.LedgerKind.{LedgerKind};
+ghost use Rattle.satp_base.specs.declared.name.Name.{Name};
+ghost use Rattle.satp_words.specs.Commands.{IsKey, ledger_text};
+
+use crate::command::WordsFault;
+use crate::keys::key;
+use clap::ArgMatches;
+use satp_base::{Address, LedgerKind, Name, Text};
+use std::alloc::Global;
+
+/// The value of an option, any text.
+pub(crate) fn text_value(
+    alloc: Global,
+    found: &ArgMatches,
+    option: &str,
+) -> Result<Text, WordsFault>
+    ensures ok { IfOk result (λ text. first_value (found_of found.now) option.now ≡ Some text) }
+    ensures refused { result ≡ Err WordsFault.Refused → (text : List ℕ) → first_value (found_of found.now) option.now ≢ Some text }
+{
+    let Some(text) = found.get_str(option) else {
+        return Err(WordsFault::Refused);
+    };
+    Ok(Text::copy(alloc, text.as_bytes())?)
+}
+
+pub(crate) fn name_value(found: &ArgMatches, option: &str) -> Result<Name, WordsFault>
+    ensures ok { IfOk result (λ name. first_value (found_of found.now) option.now ≡ Some (name_text name)) }
+    ensures refused { result ≡ Err WordsFault.Refused → (name : Name) → first_value (found_of found.now) option.now ≢ Some (name_text name) }
+{
+    let Some(text) = found.get_str(option) else {
+        return Err(WordsFault::Refused);
+    };
+    match Name::read(text.as_bytes()) {
+        Ok(name) => Ok(name),
+        Err(_) => Err(WordsFault::Refused),
+    }
+}
+
+pub(crate) fn address_value(found: &ArgMatches, option: &str) -> Result<Address, WordsFault>
+    ensures ok { IfOk result (λ address. first_value (found_of found.now) option.now ≡ Some (address_text address)) }
+    ensures refused { result ≡ Err WordsFault.Refused → (address : Address) → first_value (found_of found.now) option.now ≢ Some (address_text address) }
+{
+    let Some(text) = found.get_str(option) else {
+        return Err(WordsFault::Refused);
+    };
+    match Address::read(text.as_bytes()) {
+        Ok(address) => Ok(address),
+        Err(_) => Err(WordsFault::Refused),
+    }
+}
+
+pub(crate) fn key_value(alloc: Global, found: &ArgMatches, option: &str) -> Result<Text, WordsFault>
+    ensures ok { IfOk result (λ key. (text : List ℕ) × (first_value (found_of found.now) option.now ≡ Some text) × IsKey text key) }
+    ensures refused { result ≡ Err WordsFault.Refused → (text key : List ℕ) → first_value (found_of found.now) option.now ≡ Some text → ¬ IsKey text key }
+{
+    let Some(text) = found.get_str(option) else {
+        return Err(WordsFault::Refused);
+    };
+    key(alloc, text)
+}
+
+pub(crate) fn ledger_value(found: &ArgMatches, option: &str) -> Result<LedgerKind, WordsFault>
+    ensures ok { IfOk result (λ ledger. first_value (found_of found.now) option.now ≡ Some (ledger_text ledger)) }
+    ensures refused { result ≡ Err WordsFault.Refused → (ledger : LedgerKind) → first_value (found_of found.now) option.now ≢ Some (ledger_text ledger) }
+{
+    let Some(text) = found.get_str(option) else {
+        return Err(WordsFault::Refused);
+    };
+    if text == "accounts" {
+        Ok(LedgerKind::Accounts)
+    } else if text == "outputs" {
+        Ok(LedgerKind::Outputs)
+    } else {
+        Err(WordsFault::Refused)
+    }
+}

@@ -1,0 +1,5 @@
+pub mod Samples
+pub mod Journals
+pub mod Disks
+pub mod Segments
+pub mod Calls

@@ -1,0 +1,14 @@
+//! The definitions that public contracts cite, at work on small values: for each an example that it takes, and a near miss that it refuses.
+//!
+//! The laws of this crate stand over definitions alone. They make no call: what each says is its contract.
+#![tactic(auto)]
+
+mod calls;
+mod disks;
+mod journals;
+mod segments;
+
+pub use calls::law_calls;
+pub use disks::law_disks;
+pub use journals::law_journals;
+pub use segments::law_segments;

@@ -3,3 +3,4 @@ pub mod Journals
 pub mod Disks
 pub mod Segments
 pub mod Calls
+pub mod Ledgers

@@ -6,9 +6,11 @@
 mod calls;
 mod disks;
 mod journals;
+mod ledgers;
 mod segments;
 
 pub use calls::law_calls;
 pub use disks::law_disks;
 pub use journals::law_journals;
+pub use ledgers::law_ledgers;
 pub use segments::law_segments;

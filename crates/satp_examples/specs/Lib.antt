@@ -4,3 +4,6 @@ pub mod Disks
 pub mod Segments
 pub mod Calls
 pub mod Ledgers
+pub mod Tales
+pub mod Genesis
+pub mod Roles

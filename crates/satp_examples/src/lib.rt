@@ -5,12 +5,18 @@
 
 mod calls;
 mod disks;
+mod genesis;
 mod journals;
 mod ledgers;
+mod roles;
 mod segments;
+mod tales;
 
 pub use calls::law_calls;
 pub use disks::law_disks;
+pub use genesis::law_genesis;
 pub use journals::law_journals;
 pub use ledgers::law_ledgers;
+pub use roles::law_roles;
 pub use segments::law_segments;
+pub use tales::law_tales;

@@ -7,3 +7,6 @@ pub mod Ledgers
 pub mod Tales
 pub mod Genesis
 pub mod Roles
+pub mod Messages
+pub mod Signatures
+pub mod Wires

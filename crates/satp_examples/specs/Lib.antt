@@ -10,3 +10,5 @@ pub mod Roles
 pub mod Messages
 pub mod Signatures
 pub mod Wires
+pub mod Acts
+pub mod Stops

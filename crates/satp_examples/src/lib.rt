@@ -3,6 +3,7 @@
 //! The laws of this crate stand over definitions alone. They make no call: what each says is its contract.
 #![tactic(auto)]
 
+mod acts;
 mod calls;
 mod disks;
 mod genesis;
@@ -12,9 +13,11 @@ mod messages;
 mod roles;
 mod segments;
 mod signatures;
+mod stops;
 mod tales;
 mod wires;
 
+pub use acts::law_acts;
 pub use calls::law_calls;
 pub use disks::law_disks;
 pub use genesis::law_genesis;
@@ -24,5 +27,6 @@ pub use messages::law_messages;
 pub use roles::law_roles;
 pub use segments::law_segments;
 pub use signatures::law_signed_texts;
+pub use stops::law_site_steps;
 pub use tales::law_tales;
 pub use wires::law_wires;

@@ -22,32 +22,8 @@ use Rattle.satp_money.proofs.Maps.{entries_empty}
 use Rattle.satp_money.proofs.Steps.{absent_terms, stands}
 use Rattle.satp_examples.specs.Samples.{alpha_1, alpha_2, ann, bob, gold, quarter, salt, units}
 use Rattle.satp_examples.specs.Ledgers.{Amounts, Answers, AnswersTo, HasNoAnswer, Moves, at_most_free, book_with, entries_with, new_book, of_salt, past_what_is_free, with_gold}
+use Rattle.satp_examples.proofs.Books.{absent, amounts, entry_is, found, free_among, free_first, free_salt, moved_entry, no_entries, one_entry, total_first}
 use Rattle.satp_examples.proofs.ledgers.law_ledgers.Goals as goal
-
--- ---- the entries of the maps
-
-no_entries : map.entries new_book.entries ≡ []
-no_entries = entries_empty session_cmp sessions_total exact_sessions
-
-one_entry : (entry : Entry) → map.entries (entries_with entry) ≡ (alpha_1, record { entry = entry; terms = quarter }) ∷ []
-one_entry entry = map.entries-insert sessions_total map.empty alpha_1 (record { entry = entry; terms = quarter }) ∙ ap (map.put session_cmp alpha_1 (record { entry = entry; terms = quarter })) no_entries
-
-abbrev free_among : List (SessionId × LedgerEntry) → Name → Name → ℕ
-free_among es asset owner = (held with_gold asset owner + sum_by (λ e. given asset owner e.1) es) - sum_by (λ e. taken asset owner e.1) es
-
-abbrev free_sum_among : List (SessionId × LedgerEntry) → Name → ℕ
-free_sum_among es asset = (held_of_all with_gold asset + sum_by (λ e. given_to_all asset e.1) es) - sum_by (λ e. taken_of_all asset e.1) es
-
-abbrev total_among : List (SessionId × LedgerEntry) → Name → ℕ
-total_among es asset = free_sum_among es asset + sum_by (λ e. pledged asset e.1) es
-
-amounts : (entries : Entries) (es : List (SessionId × LedgerEntry)) → map.entries entries ≡ es → Amounts (record { genesis = with_gold; entries = entries }) (free_among es gold ann) (free_among es gold bob) (free_sum_among es gold) (total_among es gold)
-amounts entries es is = record {
-  ann_has = ap (λ x. free_among x gold ann) is;
-  bob_has = ap (λ x. free_among x gold bob) is;
-  all_have = ap (λ x. free_sum_among x gold) is;
-  there_are = ap (λ x. total_among x gold) is;
-}
 
 no_salt : (entry : Entry) → free_among ((alpha_1, record { entry = entry; terms = quarter }) ∷ []) salt ann ≡ 0
 no_salt Absent = refl
@@ -69,29 +45,6 @@ returns-clause-amounts c = record {
   cap = refl;
   no_cap = refl;
 }
-
-free_first : free_of new_book gold ann ≡ 500
-free_first = ap (λ x. free_among x gold ann) no_entries
-
-free_salt : free_of new_book salt ann ≡ 0
-free_salt = ap (λ x. free_among x salt ann) no_entries
-
-total_first : total_of new_book gold ≡ 500
-total_first = ap (λ x. total_among x gold) no_entries
-
--- ---- entries
-
-absent : entry_of map.empty alpha_1 ≡ Absent
-absent = ap (λ o. option_map_or (λ (k : LedgerEntry). k.entry) o Absent) (map.get-empty session_cmp alpha_1)
-
-moved_entry : (m : Entries) (k : LedgerEntry) → entry_of (map.insert m alpha_1 k) alpha_1 ≡ k.entry
-moved_entry m k = ap (λ o. option_map_or (λ (x : LedgerEntry). x.entry) o Absent) (map.get-insert sessions_total m alpha_1 k alpha_1)
-
-found : (entry : Entry) → map.get (entries_with entry) alpha_1 ≡ Some (record { entry = entry; terms = quarter })
-found entry = map.get-insert sessions_total map.empty alpha_1 (record { entry = entry; terms = quarter }) alpha_1
-
-entry_is : (entry : Entry) → entry_of (entries_with entry) alpha_1 ≡ entry
-entry_is entry = moved_entry map.empty (record { entry = entry; terms = quarter })
 
 -- ---- the rule
 

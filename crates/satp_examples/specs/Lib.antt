@@ -12,3 +12,5 @@ pub mod Signatures
 pub mod Wires
 pub mod Acts
 pub mod Stops
+pub mod Outputs
+pub mod Records

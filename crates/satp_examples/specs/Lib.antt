@@ -14,3 +14,5 @@ pub mod Acts
 pub mod Stops
 pub mod Outputs
 pub mod Records
+pub mod Memory
+pub mod Appending

@@ -4,11 +4,13 @@
 #![tactic(auto)]
 
 mod acts;
+mod appending;
 mod calls;
 mod disks;
 mod genesis;
 mod journals;
 mod ledgers;
+mod memory;
 mod messages;
 mod outputs;
 mod records;
@@ -20,11 +22,13 @@ mod tales;
 mod wires;
 
 pub use acts::law_acts;
+pub use appending::law_kept_journals;
 pub use calls::law_calls;
 pub use disks::law_disks;
 pub use genesis::law_genesis;
 pub use journals::law_journals;
 pub use ledgers::law_ledgers;
+pub use memory::law_memory;
 pub use messages::law_messages;
 pub use outputs::law_outputs;
 pub use records::law_records;

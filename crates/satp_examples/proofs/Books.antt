@@ -1,0 +1,88 @@
+-- The small ledgers of the examples: their entries and amounts.
+use Rattle.std.proofs.Common.{◌≡◌, ◌≢◌, ◌≤◌, ◌<◌, ◌+◌, ◌-◌, ℕ, true, false, List, [], ◌∷◌, Some, None, Option, refl, sym, ap, ◌∙◌, subst, inl, inr, arith, lit≤, lit<, rules, cond}
+use Rattle.std.specs.FinMap as map
+use Rattle.std.specs.List.{sum_by}
+use Rattle.std.specs.Option.{option_map_or}
+use Rattle.std.specs.Ordering.{eq_by_cmp}
+use Rattle.satp_base.specs.Keys.{session_cmp}
+use Rattle.satp_base.specs.LedgerRule.{IsOutOfOrder, LedgerRule, RuleOn, entry_of, is_always_answered, leads, moved, result_of, lock_on, moves, operation, operation_on, stays, terms_of}
+use Rattle.satp_base.specs.Ledgers.{Entries}
+use Rattle.satp_base.specs.Money.{Book, cap_of, free_of, free_sum_of, given, given_to_all, held, held_of_all, pledged, sum_entries, taken, taken_of_all, total_of}
+use Rattle.satp_base.specs.declared.ledger.Answer.{Answer}
+use Rattle.satp_base.specs.declared.ledger.Answer.TheVariants.{Done, NoFunds, UnknownAsset, Capped, Taken}
+use Rattle.satp_base.specs.declared.ledger.Entry.{Entry}
+use Rattle.satp_base.specs.declared.ledger.Entry.TheVariants.{Absent, Locked, Burnt, Minted, Assigned, Released}
+use Rattle.satp_base.specs.declared.ledger.LedgerEntry.{LedgerEntry}
+use Rattle.satp_base.specs.declared.ledger.LedgerOp.{LedgerOp}
+use Rattle.satp_base.specs.declared.ledger.LedgerOp.TheVariants.{Lock, Burn, Mint, Assign, Release}
+use Rattle.satp_base.specs.declared.message.Terms.{Terms}
+use Rattle.satp_base.specs.declared.name.Name.{Name}
+use Rattle.satp_base.specs.declared.session.SessionId.{SessionId}
+use Rattle.satp_base.proofs.SessionLemmas.{exact_sessions, sessions_total}
+use Rattle.satp_money.proofs.Maps.{entries_empty}
+use Rattle.satp_money.proofs.Steps.{absent_terms, stands}
+use Rattle.satp_examples.specs.Samples.{alpha_1, alpha_2, ann, bob, gold, quarter, salt, units}
+use Rattle.satp_examples.specs.Ledgers.{Amounts, Answers, AnswersTo, HasNoAnswer, Moves, at_most_free, book_with, entries_with, new_book, of_salt, past_what_is_free, with_gold}
+
+-- ---- the entries of the maps
+
+pub no_entries : map.entries new_book.entries ≡ []
+no_entries = entries_empty session_cmp sessions_total exact_sessions
+
+pub one_entry : (entry : Entry) → map.entries (entries_with entry) ≡ (alpha_1, record { entry = entry; terms = quarter }) ∷ []
+one_entry entry = map.entries-insert sessions_total map.empty alpha_1 (record { entry = entry; terms = quarter }) ∙ ap (map.put session_cmp alpha_1 (record { entry = entry; terms = quarter })) no_entries
+
+abbrev pub free_among : List (SessionId × LedgerEntry) → Name → Name → ℕ
+free_among es asset owner = (held with_gold asset owner + sum_by (λ e. given asset owner e.1) es) - sum_by (λ e. taken asset owner e.1) es
+
+abbrev pub free_sum_among : List (SessionId × LedgerEntry) → Name → ℕ
+free_sum_among es asset = (held_of_all with_gold asset + sum_by (λ e. given_to_all asset e.1) es) - sum_by (λ e. taken_of_all asset e.1) es
+
+abbrev pub total_among : List (SessionId × LedgerEntry) → Name → ℕ
+total_among es asset = free_sum_among es asset + sum_by (λ e. pledged asset e.1) es
+
+pub amounts : (entries : Entries) (es : List (SessionId × LedgerEntry)) → map.entries entries ≡ es → Amounts (record { genesis = with_gold; entries = entries }) (free_among es gold ann) (free_among es gold bob) (free_sum_among es gold) (total_among es gold)
+amounts entries es is = record {
+  ann_has = ap (λ x. free_among x gold ann) is;
+  bob_has = ap (λ x. free_among x gold bob) is;
+  all_have = ap (λ x. free_sum_among x gold) is;
+  there_are = ap (λ x. total_among x gold) is;
+}
+
+pub free_first : free_of new_book gold ann ≡ 500
+free_first = ap (λ x. free_among x gold ann) no_entries
+
+pub free_salt : free_of new_book salt ann ≡ 0
+free_salt = ap (λ x. free_among x salt ann) no_entries
+
+pub total_first : total_of new_book gold ≡ 500
+total_first = ap (λ x. total_among x gold) no_entries
+
+-- ---- entries
+
+pub absent : entry_of map.empty alpha_1 ≡ Absent
+absent = ap (λ o. option_map_or (λ (k : LedgerEntry). k.entry) o Absent) (map.get-empty session_cmp alpha_1)
+
+pub moved_entry : (m : Entries) (k : LedgerEntry) → entry_of (map.insert m alpha_1 k) alpha_1 ≡ k.entry
+moved_entry m k = ap (λ o. option_map_or (λ (x : LedgerEntry). x.entry) o Absent) (map.get-insert sessions_total m alpha_1 k alpha_1)
+
+pub found : (entry : Entry) → map.get (entries_with entry) alpha_1 ≡ Some (record { entry = entry; terms = quarter })
+found entry = map.get-insert sessions_total map.empty alpha_1 (record { entry = entry; terms = quarter }) alpha_1
+
+pub entry_is : (entry : Entry) → entry_of (entries_with entry) alpha_1 ≡ entry
+entry_is entry = moved_entry map.empty (record { entry = entry; terms = quarter })
+
+-- ---- operations
+
+pub operation_is : (b : Book) (op : LedgerOp) (s : SessionId) (t : Terms) (e : Entry) → entry_of b.entries s ≡ e → operation b op s t ≡ operation_on b op s t e
+unfolding operation
+operation_is b op s t e is = ap (operation_on b op s t) is
+
+pub lock_is : operation new_book Lock alpha_1 quarter ≡ moves new_book Lock alpha_1 quarter
+lock_is = operation_is new_book Lock alpha_1 quarter Absent absent ∙ ap (lock_on new_book alpha_1 quarter) free_first
+
+pub burn_is : operation new_book Burn alpha_1 quarter ≡ stays new_book None
+burn_is = operation_is new_book Burn alpha_1 quarter Absent absent
+
+pub locked_is : operation (book_with Locked) Lock alpha_1 quarter ≡ stays (book_with Locked) (Some Done)
+locked_is = operation_is (book_with Locked) Lock alpha_1 quarter Locked (entry_is Locked)

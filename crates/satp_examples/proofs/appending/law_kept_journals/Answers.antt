@@ -1,0 +1,140 @@
+use Rattle.std.proofs.Common.{◌≡◌, ◌<◌, ◌+◌, ℕ, zero, suc, true, false, List, [], ◌∷◌, ◌++◌, Option, Some, None, option_map, Ok, Err, ◌⊎◌, length, refl, sym, ap, subst, inl, inr, arith, lit<, rules}
+use Rattle.std.specs.Option.{option_map_or}
+use Rattle.std.specs.Prelude.{slice_index}
+use Rattle.satp_base.specs.Calls.{FailsAmong, Told, made}
+use Rattle.satp_base.specs.Format.{Breaks, Damage, EndsAt, IsAtRest, NoRecord, Stands, records}
+use Rattle.satp_base.specs.Segments.{append_events, open_events}
+use Rattle.satp_base.specs.Trail.{IsImage, seen}
+use Rattle.satp_base.specs.declared.area.Area.TheVariants.{JournalA}
+use Rattle.satp_base.specs.declared.area.Event.TheVariants.{Wrote}
+use Rattle.satp_base.proofs.Readings.{never_both, one_damage, one_list}
+use Rattle.satp_base.proofs.Standings.{only_settled}
+use Rattle.satp_journal.specs.Listing.{IsUnread}
+use Rattle.satp_journal.specs.Opening.{mend_calls}
+use Rattle.satp_journal.specs.State.{Held}
+use Rattle.satp_journal.specs.declared.fault.JournalFault.TheVariants.{Damaged}
+use Rattle.satp_journal.specs.declared.list.Unread.TheVariants as unread
+use Rattle.satp_examples.specs.Appending.{Opens, append, opened, at_rest, closed, damaged, held, of_seven, synced, uncalled}
+use Rattle.satp_examples.specs.Journals.{abc, abc_then, d}
+use Rattle.satp_examples.proofs.appending.law_kept_journals.Goals as goal
+
+abbrev count : Option Told → ℕ
+count o = option_map_or (λ (t : Told). t.calls) o 0
+
+unlike : (x y : ℕ) → (x < y) ⊎ (y < x) → x ≡ y → ⊥
+unlike x y (inl h) e = omega (arith, h, e)
+unlike x y (inr h) e = omega (arith, h, e)
+
+-- ---- an append
+
+without_call : FailsAmong JournalA append (Some at_rest) (Some at_rest) → ⊥
+without_call (zero, event, is, (added, fails, e)) = unlike 0 1 (inl (lit< tt)) (ap count e)
+without_call (suc zero, event, is, (added, fails, e)) = unlike 0 2 (inl (lit< tt)) (ap count e)
+without_call (suc (suc zero), event, is, (added, fails, e)) = unlike 0 3 (inl (lit< tt)) (ap count e)
+without_call (suc (suc (suc zero)), event, is, (added, fails, e)) = unlike 0 4 (inl (lit< tt)) (ap count e)
+without_call (suc (suc (suc (suc n))), event, is, rest) = absurd cc
+
+pub returns-clause-appends : goal.returns-clause-appends
+returns-clause-appends c = record {
+  done = (refl, refl, refl);
+  failed = (refl, refl, (0, Wrote JournalA 7 (0 ∷ 1 ∷ 100 ∷ 0 ∷ []), refl, ([], inl refl, refl)));
+  no_memory = (refl, refl, refl);
+  broken_before = (refl, refl, refl);
+  not_done_without_the_last_sync = λ h. unlike 3 4 (inl (lit< tt)) (ap count h.2);
+  not_done_and_forgotten = λ h. unlike 1 2 (inl (lit< tt)) (ap (λ (x : Held). length x.payloads) h.1);
+  not_done_where_broken = λ new told h. let bad = h.0 in absurd cc;
+  not_failed_and_whole = λ h. let bad = ap (λ (x : Held). x.broken) h.1 in absurd cc;
+  not_failed_without_a_call = λ h. without_call h.2;
+  not_without_memory_behind_a_call = λ h. unlike 1 0 (inr (lit< tt)) (ap count h.2);
+  not_broken_at_once = λ h. let bad = h.0 in absurd cc;
+  not_damaged = λ at new told h. h;
+}
+
+-- ---- an opening
+
+nothing_there : NoRecord []
+nothing_there q tail off = absurd cc
+
+breaks : Breaks damaged (abc ∷ [])
+breaks = (lit< tt, ([], record { valid = search rules; bytes = refl }, nothing_there))
+
+is_damaged : Damage damaged 6
+is_damaged = (abc ∷ [], breaks, refl)
+
+is_whole : Stands closed (abc ∷ [])
+is_whole = search rules
+
+-- the calls that are told where these bytes were read
+abbrev calls_with : List ℕ → List ℕ → ℕ
+calls_with image read = count (option_map (made (3 + mend_calls read 6) (open_events JournalA read 6)) (Some (uncalled image)))
+
+unmended : ¬ Opens of_seven 3 (synced ∷ []) (Ok (opened (abc ∷ [])))
+unmended (read, finds, e) = unlike 3 5 (inl (lit< tt)) (subst (λ x. 3 ≡ calls_with of_seven x) finds.0 (ap count e))
+
+mended : ¬ Opens closed 5 (synced ∷ Wrote JournalA 6 (0 ∷ []) ∷ synced ∷ []) (Ok (opened (abc ∷ [])))
+mended (read, finds, e) = unlike 5 3 (inr (lit< tt)) (subst (λ x. 5 ≡ calls_with closed x) finds.0 (ap count e))
+
+unsynced : ¬ Opens closed 2 [] (Ok (opened (abc ∷ [])))
+unsynced (read, finds, e) = unlike 2 3 (inl (lit< tt)) (subst (λ x. 2 ≡ calls_with closed x) finds.0 (ap count e))
+
+another_list : ¬ Opens closed 3 (synced ∷ []) (Ok (opened []))
+another_list (read, finds, e) = let same = one_list closed [] (abc ∷ []) (subst (λ x. Stands x []) finds.0 finds.1) is_whole in absurd cc
+
+elsewhere : ¬ Opens damaged 3 (synced ∷ []) (Err (Damaged 0))
+elsewhere (read, is, found, e) = unlike 0 6 (inl (lit< tt)) (one_damage damaged 0 6 (subst (λ x. Damage x 0) is found) is_damaged)
+
+whole : (at : ℕ) → ¬ Opens closed 3 (synced ∷ []) (Err (Damaged at))
+whole at (read, is, found, e) = never_both closed (abc ∷ []) at is_whole (subst (λ x. Damage x at) is found)
+
+mended_damage : ¬ Opens damaged 5 (synced ∷ Wrote JournalA 6 (0 ∷ []) ∷ synced ∷ []) (Err (Damaged 6))
+mended_damage (read, is, found, e) = unlike 5 3 (inr (lit< tt)) (ap count e)
+
+pub returns-clause-openings : goal.returns-clause-openings
+returns-clause-openings c = record {
+  found = (closed, (refl, is_whole, refl, refl), refl);
+  mended = (of_seven, (refl, search rules, refl, refl), refl);
+  empty = ([], (refl, search rules, refl, refl), refl);
+  found_damaged = (damaged, refl, is_damaged, refl);
+  first_sync_failed = inl (0, synced, refl, ([], inl refl, refl));
+  not_unmended = unmended;
+  not_mended_at_rest = mended;
+  not_another_list = another_list;
+  not_without_the_sync = unsynced;
+  not_damaged_elsewhere = elsewhere;
+  not_damaged_where_whole = whole;
+  not_mended_where_damaged = mended_damage;
+  not_broken = λ h. h;
+}
+
+-- ---- lists and gates
+
+before_payload : ¬ IsUnread damaged (unread.Damaged 6 0)
+before_payload ([], breaks, at, index) = unlike 6 0 (inr (lit< tt)) at
+before_payload (p ∷ ps, breaks, at, index) = absurd (omega (arith, index))
+
+where_whole : (at index : ℕ) → ¬ IsUnread closed (unread.Damaged at index)
+where_whole at index (payloads, breaks, is, count) = never_both closed (abc ∷ []) at is_whole (payloads, breaks, is)
+
+pub returns-clause-lists : goal.returns-clause-lists
+returns-clause-lists c = record {
+  where_it_breaks = (abc ∷ [], breaks, refl, refl);
+  not_before_the_payload = before_payload;
+  not_where_whole = where_whole;
+  the_gate_is_there = λ t is. subst (λ o. 6 < option_map_or (λ (x : Told). length (seen x.trail JournalA)) o 0) is (lit< tt);
+  the_gate_is_not = λ h. let bad : 6 < 6 = h (uncalled (abc_then [])) refl in absurd (omega (arith, bad));
+}
+
+-- ---- areas at rest
+
+rests_here : IsAtRest (abc ∷ []) closed
+rests_here = ([], record { valid = search rules; bytes = refl })
+
+here : IsImage at_rest.trail JournalA closed
+here = search rules
+
+pub returns-clause-rests : goal.returns-clause-rests
+returns-clause-rests c = record {
+  rests = λ image is. subst (IsAtRest (abc ∷ [])) (sym (only_settled closed image is)) rests_here;
+  another_list = λ h. let bytes = (h closed here).1.bytes in absurd cc;
+  a_gate_unsynced = λ h. unlike 7 0 (inr (lit< tt)) (ap (λ xs. slice_index xs 6) (h of_seven (search rules)).1.bytes);
+}

@@ -1,10 +1,16 @@
 -- The small ledgers of the examples: their entries and amounts.
-use Rattle.std.proofs.Common.{◌≡◌, ◌≢◌, ◌≤◌, ◌<◌, ◌+◌, ◌-◌, ℕ, true, false, List, [], ◌∷◌, Some, None, Option, refl, sym, ap, ◌∙◌, subst, inl, inr, arith, lit≤, lit<, rules, cond}
+use Rattle.std.proofs.Common.{Bool, option_map, ◌≡◌, ◌≢◌, ◌≤◌, ◌<◌, ◌+◌, ◌-◌, ℕ, true, false, List, [], ◌∷◌, Some, None, Option, refl, sym, ap, ◌∙◌, subst, inl, inr, arith, lit≤, lit<, rules, cond}
 use Rattle.std.specs.FinMap as map
 use Rattle.std.specs.List.{sum_by}
 use Rattle.std.specs.Option.{option_map_or}
 use Rattle.std.specs.Ordering.{eq_by_cmp}
+use Rattle.std.specs.Prelude.{unwrap_or}
+use Rattle.satp_base.specs.Founding.{counted, equal_names}
+use Rattle.satp_base.specs.Genesis.{IsGenesis}
+use Rattle.satp_base.specs.GenesisText.{nothing}
 use Rattle.satp_base.specs.Keys.{session_cmp}
+use Rattle.satp_base.specs.declared.genesis.Asset.{Asset}
+use Rattle.satp_examples.specs.Genesis.{gold_1000}
 use Rattle.satp_base.specs.LedgerRule.{IsOutOfOrder, LedgerRule, RuleOn, entry_of, is_always_answered, leads, moved, result_of, lock_on, moves, operation, operation_on, stays, terms_of}
 use Rattle.satp_base.specs.Ledgers.{Entries}
 use Rattle.satp_base.specs.Money.{Book, cap_of, free_of, free_sum_of, given, given_to_all, held, held_of_all, pledged, sum_entries, taken, taken_of_all, total_of}
@@ -86,3 +92,40 @@ burn_is = operation_is new_book Burn alpha_1 quarter Absent absent
 
 pub locked_is : operation (book_with Locked) Lock alpha_1 quarter ≡ stays (book_with Locked) (Some Done)
 locked_is = operation_is (book_with Locked) Lock alpha_1 quarter Locked (entry_is Locked)
+
+-- the rule takes the lock, and leaves one book
+pub lock_rule : LedgerRule new_book Lock alpha_1 quarter Done (moved new_book Lock alpha_1 quarter)
+lock_rule = subst (λ e. RuleOn new_book e Lock alpha_1 quarter Done (moved new_book Lock alpha_1 quarter)) (sym absent) (inr (refl, omega (arith, free_first), refl))
+
+lock_only : (new : Book) → RuleOn new_book Absent Lock alpha_1 quarter Done new → new ≡ moved new_book Lock alpha_1 quarter
+lock_only new (inl h) = let bad = h.0 in absurd cc
+lock_only new (inr h) = h.2
+
+pub lock_leaves : (new : Book) → LedgerRule new_book Lock alpha_1 quarter Done new → new ≡ moved new_book Lock alpha_1 quarter
+lock_leaves new h = lock_only new (subst (λ e. RuleOn new_book e Lock alpha_1 quarter Done new) absent h)
+
+pub locked_rule : LedgerRule (book_with Locked) Lock alpha_1 quarter Done (book_with Locked)
+locked_rule = subst (λ e. RuleOn (book_with Locked) e Lock alpha_1 quarter Done (book_with Locked)) (sym (entry_is Locked)) (inl (refl, refl))
+
+burns_nothing : (new : Book) → RuleOn new_book Absent Burn alpha_1 quarter Done new → ⊥
+burns_nothing new (inl h) = let bad = h.0 in absurd cc
+burns_nothing new (inr h) = let bad = h.0 in absurd cc
+
+pub no_burn : (new : Book) → ¬ LedgerRule new_book Burn alpha_1 quarter Done new
+no_burn new h = burns_nothing new (subst (λ e. RuleOn new_book e Burn alpha_1 quarter Done new) absent h)
+
+pub lock_changes : ¬ (new_book ≡ moved new_book Lock alpha_1 quarter)
+lock_changes e = let same = ap (λ (b : Book). entry_of b.entries alpha_1) e in let was = absent in let is = moved_entry map.empty (record { entry = Locked; terms = terms_of map.empty alpha_1 quarter }) in absurd cc
+
+-- ---- the founding
+
+-- whether the asset is gold or not
+within : (is : Bool) → 0 + counted is 500 ≤ unwrap_or (option_map (λ (x : Asset). x.cap.number) (cond is (Some gold_1000) None)) 0
+within true = lit≤ tt
+within false = lit≤ tt
+
+pub gold_genesis : IsGenesis with_gold
+gold_genesis = record { few_assets = lit≤ tt; few_holds = lit≤ tt; apart = (refl, tt); capped = λ asset. within (equal_names asset gold) }
+
+pub no_genesis : IsGenesis nothing
+no_genesis = record { few_assets = lit≤ tt; few_holds = lit≤ tt; apart = tt; capped = λ asset. lit≤ tt }

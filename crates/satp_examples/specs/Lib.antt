@@ -16,3 +16,5 @@ pub mod Outputs
 pub mod Records
 pub mod Memory
 pub mod Appending
+pub mod Keepers
+pub mod SetUps

@@ -16,6 +16,7 @@ use Rattle.satp_journal.specs.declared.fault.JournalFault.TheVariants.{Damaged}
 use Rattle.satp_journal.specs.declared.list.Unread.TheVariants as unread
 use Rattle.satp_examples.specs.Appending.{Opens, append, opened, at_rest, closed, damaged, held, of_seven, synced, uncalled}
 use Rattle.satp_examples.specs.Journals.{abc, abc_then, d}
+use Rattle.satp_examples.proofs.Images.{breaks, is_damaged, is_whole}
 use Rattle.satp_examples.proofs.appending.law_kept_journals.Goals as goal
 
 abbrev count : Option Told → ℕ
@@ -51,18 +52,6 @@ returns-clause-appends c = record {
 }
 
 -- ---- an opening
-
-nothing_there : NoRecord []
-nothing_there q tail off = absurd cc
-
-breaks : Breaks damaged (abc ∷ [])
-breaks = (lit< tt, ([], record { valid = search rules; bytes = refl }, nothing_there))
-
-is_damaged : Damage damaged 6
-is_damaged = (abc ∷ [], breaks, refl)
-
-is_whole : Stands closed (abc ∷ [])
-is_whole = search rules
 
 -- the calls that are told where these bytes were read
 abbrev calls_with : List ℕ → List ℕ → ℕ

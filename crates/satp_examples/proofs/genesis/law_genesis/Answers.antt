@@ -5,19 +5,15 @@ use Rattle.satp_base.specs.Lines.{Runs, StopsAt, is_line, lines_text}
 use Rattle.satp_base.specs.declared.genesis.Asset.{Asset}
 use Rattle.satp_examples.specs.Genesis.{Takes, a, b, gold_1000}
 use Rattle.satp_examples.specs.Samples.{gold, salt}
+use Rattle.satp_examples.proofs.Books.{gold_genesis, no_genesis}
 use Rattle.satp_examples.proofs.genesis.law_genesis.Goals as goal
 
 -- ---- foundings
 
--- whether the asset is gold or not
-within : (is : Bool) → 0 + counted is 500 ≤ unwrap_or (option_map (λ (x : Asset). x.cap.number) (cond is (Some gold_1000) None)) 0
-within true = lit≤ tt
-within false = lit≤ tt
-
 pub returns-clause-founded : goal.returns-clause-founded
 returns-clause-founded c = record {
-  with_nothing = record { few_assets = lit≤ tt; few_holds = lit≤ tt; apart = tt; capped = λ asset. lit≤ tt };
-  one_hold = record { few_assets = lit≤ tt; few_holds = lit≤ tt; apart = (refl, tt); capped = λ asset. within (equal_names asset gold) };
+  with_nothing = no_genesis;
+  one_hold = gold_genesis;
   past_the_cap = λ g. let bad : 1001 ≤ 1000 = g.capped gold in absurd (omega (arith, bad));
   of_an_unknown_asset = λ g. let bad : 1 ≤ 0 = g.capped salt in absurd (omega (arith, bad));
   one_name_twice = λ g. let bad = g.apart.0 in absurd cc;

@@ -1,7 +1,7 @@
 -- How a command that reads a text ends: here one that prints the text, of two bytes at most.
 use Rattle.std.specs.Prelude.{◌≡◌, ℕ, List, [], ◌∷◌, codes, Some}
 use Rattle.satp_app.specs.Outcomes.{line_of, status_of}
-use Rattle.satp_app.specs.Outside.{Printed, PrintedPart, ReadTo, ReadWithin, SinkState, SourceState, StreamsState}
+use Rattle.satp_app.specs.Outside.{Printed, PrintedPart, ReadTo, ReadWithin, SinkState, SourceState}
 use Rattle.satp_app.specs.Streams.{Form, StreamRule}
 use Rattle.satp_app.specs.Texts.{without_newline}
 use Rattle.satp_app.specs.declared.outcome.Outcome.{Outcome}

@@ -1,5 +1,5 @@
 -- Deals of a session, and sessions that are safe, settled and tied.
-use Rattle.std.specs.Prelude.{List, [], ◌∷◌, ◌++◌, take, Some, None, true, false}
+use Rattle.std.specs.Prelude.{List, [], ◌∷◌, ◌++◌, take, Some, true}
 use Rattle.satp_base.specs.Tales.{eleven}
 use Rattle.satp_base.specs.declared.ledger.Entry.TheVariants.{Absent, Locked, Burnt, Minted, Assigned, Released}
 use Rattle.satp_base.specs.declared.ledger.LedgerOp.TheVariants.{Lock, Burn}

@@ -1,4 +1,4 @@
-use Rattle.std.proofs.Common.{◌≡◌, ◌≤◌, ◌<◌, ℕ, zero, suc, List, [], ◌∷◌, length, take, Some, refl, sym, ap, ◌∙◌, subst, arith, lit≤, lit<}
+use Rattle.std.proofs.Common.{◌≡◌, ◌≤◌, ◌<◌, ℕ, zero, suc, List, [], ◌∷◌, length, take, Some, refl, ap, subst, arith, lit≤, lit<}
 use Rattle.std.specs.Fmt.{digits}
 use Rattle.satp_app.specs.Texts.{without_newline}
 use Rattle.satp_app.specs.declared.outcome.Outcome.TheVariants as outcome

@@ -1,7 +1,6 @@
-use Rattle.std.proofs.Common.{◌≡◌, List, [], ◌∷◌, length, take, ◌<◌, ◌⊎◌, ℕ, true, false, ap, refl, inl, inr, arith, lit<, rules}
-use Rattle.satp_base.specs.Tales.{eleven, maker}
+use Rattle.std.proofs.Common.{◌≡◌, length, take, ◌<◌, ◌⊎◌, ℕ, true, false, ap, refl, inl, inr, arith, lit<, rules}
+use Rattle.satp_base.specs.Tales.{eleven}
 use Rattle.satp_base.specs.declared.ledger.Entry.TheVariants.{Absent, Locked, Burnt, Minted, Assigned, Released}
-use Rattle.satp_base.specs.declared.message.Kind.{Kind}
 use Rattle.satp_base.specs.declared.message.Kind.TheVariants.{TransferCommence, CommenceAck}
 use Rattle.satp_base.specs.declared.message.Role.{Role}
 use Rattle.satp_base.specs.declared.message.Role.TheVariants.{Origin, Recipient}
@@ -10,7 +9,6 @@ use Rattle.satp_world.specs.Deal.DealStep.{Locks, Mints, Readies, Commits, Origi
 use Rattle.satp_world.specs.Sessions.{Reaches, Tied, unbegun}
 use Rattle.satp_world.specs.Sessions.Tied.{Same, Origin_ahead, Recipient_ahead}
 use Rattle.satp_world.proofs.SafeLaw.{law_sessions}
-use Rattle.satp_examples.specs.Deals.{committed, is_ready, locked, minted}
 use Rattle.satp_examples.proofs.deals.law_deals.Goals as goal
 
 -- ---- steps: what was so before where this is so behind

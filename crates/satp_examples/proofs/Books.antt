@@ -1,9 +1,8 @@
 -- The small ledgers of the examples: their entries and amounts.
-use Rattle.std.proofs.Common.{Bool, option_map, ◌≡◌, ◌≢◌, ◌≤◌, ◌<◌, ◌+◌, ◌-◌, ℕ, true, false, List, [], ◌∷◌, Some, None, Option, refl, sym, ap, ◌∙◌, subst, inl, inr, arith, lit≤, lit<, rules, cond}
+use Rattle.std.proofs.Common.{Bool, option_map, ◌≡◌, ◌≤◌, ◌+◌, ◌-◌, ℕ, true, false, List, [], ◌∷◌, Some, None, refl, sym, ap, ◌∙◌, subst, inl, inr, arith, lit≤, cond}
 use Rattle.std.specs.FinMap as map
 use Rattle.std.specs.List.{sum_by}
 use Rattle.std.specs.Option.{option_map_or}
-use Rattle.std.specs.Ordering.{eq_by_cmp}
 use Rattle.std.specs.Prelude.{unwrap_or}
 use Rattle.satp_base.specs.Founding.{counted, equal_names}
 use Rattle.satp_base.specs.Genesis.{IsGenesis}
@@ -11,24 +10,22 @@ use Rattle.satp_base.specs.GenesisText.{nothing}
 use Rattle.satp_base.specs.Keys.{session_cmp}
 use Rattle.satp_base.specs.declared.genesis.Asset.{Asset}
 use Rattle.satp_examples.specs.Genesis.{gold_1000}
-use Rattle.satp_base.specs.LedgerRule.{IsOutOfOrder, LedgerRule, RuleOn, entry_of, is_always_answered, leads, moved, result_of, lock_on, moves, operation, operation_on, stays, terms_of}
+use Rattle.satp_base.specs.LedgerRule.{LedgerRule, RuleOn, entry_of, moved, lock_on, moves, operation, operation_on, stays, terms_of}
 use Rattle.satp_base.specs.Ledgers.{Entries}
-use Rattle.satp_base.specs.Money.{Book, cap_of, free_of, free_sum_of, given, given_to_all, held, held_of_all, pledged, sum_entries, taken, taken_of_all, total_of}
-use Rattle.satp_base.specs.declared.ledger.Answer.{Answer}
-use Rattle.satp_base.specs.declared.ledger.Answer.TheVariants.{Done, NoFunds, UnknownAsset, Capped, Taken}
+use Rattle.satp_base.specs.Money.{Book, free_of, given, given_to_all, held, held_of_all, pledged, taken, taken_of_all, total_of}
+use Rattle.satp_base.specs.declared.ledger.Answer.TheVariants.{Done}
 use Rattle.satp_base.specs.declared.ledger.Entry.{Entry}
-use Rattle.satp_base.specs.declared.ledger.Entry.TheVariants.{Absent, Locked, Burnt, Minted, Assigned, Released}
+use Rattle.satp_base.specs.declared.ledger.Entry.TheVariants.{Absent, Locked}
 use Rattle.satp_base.specs.declared.ledger.LedgerEntry.{LedgerEntry}
 use Rattle.satp_base.specs.declared.ledger.LedgerOp.{LedgerOp}
-use Rattle.satp_base.specs.declared.ledger.LedgerOp.TheVariants.{Lock, Burn, Mint, Assign, Release}
+use Rattle.satp_base.specs.declared.ledger.LedgerOp.TheVariants.{Lock, Burn}
 use Rattle.satp_base.specs.declared.message.Terms.{Terms}
 use Rattle.satp_base.specs.declared.name.Name.{Name}
 use Rattle.satp_base.specs.declared.session.SessionId.{SessionId}
 use Rattle.satp_base.proofs.SessionLemmas.{exact_sessions, sessions_total}
 use Rattle.satp_money.proofs.Maps.{entries_empty}
-use Rattle.satp_money.proofs.Steps.{absent_terms, stands}
-use Rattle.satp_examples.specs.Samples.{alpha_1, alpha_2, ann, bob, gold, quarter, salt, units}
-use Rattle.satp_examples.specs.Ledgers.{Amounts, Answers, AnswersTo, HasNoAnswer, Moves, at_most_free, book_with, entries_with, new_book, of_salt, past_what_is_free, with_gold}
+use Rattle.satp_examples.specs.Samples.{alpha_1, ann, bob, gold, quarter, salt}
+use Rattle.satp_examples.specs.Ledgers.{Amounts, book_with, entries_with, new_book, with_gold}
 
 -- ---- the entries of the maps
 

@@ -1,5 +1,5 @@
 -- What calls on a ledger may answer, and what they leave of what it tells.
-use Rattle.std.specs.Prelude.{◌≡◌, ℕ, List, [], ◌∷◌, Option, Some, None, Result, Ok, Err}
+use Rattle.std.specs.Prelude.{ℕ, List, [], ◌∷◌, Option, Some, None, Result, Ok, Err}
 use Rattle.std.specs.FinMap as map
 use Rattle.satp_base.specs.Acts.{ActsOn, Applies, Asks, FoundEvents, FoundsBook, MayAdd, MayAnswer, founded}
 use Rattle.satp_base.specs.Calls.{asked, made}

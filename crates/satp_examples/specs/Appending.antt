@@ -1,5 +1,5 @@
 -- A journal that holds `abc`: what it answers where it is opened and where `d` is appended.
-use Rattle.std.specs.Prelude.{◌≡◌, ℕ, List, [], ◌∷◌, Option, Some, None, Result, Ok, Err, true, false}
+use Rattle.std.specs.Prelude.{ℕ, List, [], ◌∷◌, Option, Some, Result, Ok, Err, true, false}
 use Rattle.std.specs.FinMap as map
 use Rattle.satp_base.specs.Calls.{Told, made}
 use Rattle.satp_base.specs.Laws.{RestsAt}

@@ -1,13 +1,10 @@
 -- What a stop may leave of an area of four small bytes, and what a failed call may.
-use Rattle.std.proofs.Common.{refl}
-use Rattle.std.specs.Prelude.{◌≡◌, ◌≢◌, ℕ, ◌-◌, ◌^◌, List, [], ◌∷◌, ◌++◌, true, Some, None, Option}
+use Rattle.std.specs.Prelude.{◌≡◌, ℕ, List, [], ◌∷◌, ◌++◌}
 use Rattle.std.specs.FinMap as map
-use Rattle.satp_base.specs.Calls.{Fails, FailsAmong, IsFailure, MayMiss, Reads, Told, asked, entered, made, risen}
-use Rattle.satp_base.specs.Trail.{IsImage, KeepsModel, Leaves, Standing, Trail, extended, next, overlaid, seen, settled, wrote}
-use Rattle.satp_base.specs.declared.area.Area.{Area}
-use Rattle.satp_base.specs.declared.area.Area.TheVariants.{JournalA, JournalB, Ledger}
+use Rattle.satp_base.specs.Trail.{IsImage, KeepsModel, Trail, seen}
+use Rattle.satp_base.specs.declared.area.Area.TheVariants.{JournalA, JournalB}
 use Rattle.satp_base.specs.declared.area.Event.{Event}
-use Rattle.satp_base.specs.declared.area.Event.TheVariants.{Wrote, Cut, Synced, Left, Founded}
+use Rattle.satp_base.specs.declared.area.Event.TheVariants.{Wrote, Cut, Synced, Left}
 
 abbrev pub three : List ℕ
 three = 1 ∷ 2 ∷ 3 ∷ []

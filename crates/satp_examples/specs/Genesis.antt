@@ -12,7 +12,7 @@ use Rattle.satp_base.specs.declared.lines.LinesFault.{LinesFault}
 use Rattle.satp_base.specs.declared.lines.LinesFault.TheVariants.{Long, Line}
 use Rattle.satp_base.specs.declared.name.Name.{Name}
 use Rattle.satp_examples.specs.Ledgers.{with_gold}
-use Rattle.satp_examples.specs.Samples.{ann, bob, gold, salt, units}
+use Rattle.satp_examples.specs.Samples.{bob, gold, salt, units}
 
 abbrev pub gold_1000 : Asset
 gold_1000 = record { name = gold; cap = units 1000 (lit≤ tt) (lit≤ tt) }

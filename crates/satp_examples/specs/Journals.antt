@@ -1,6 +1,6 @@
 -- Images of a journal, byte by byte: what they stand for, where they are damaged, and which of them an opening may mend.
-use Rattle.std.specs.Prelude.{◌≡◌, ℕ, List, [], ◌∷◌}
-use Rattle.satp_base.specs.Format.{Damage, IsMendable, IsPayload, NoRecord, SplitsOff, Stands}
+use Rattle.std.specs.Prelude.{ℕ, List, [], ◌∷◌}
+use Rattle.satp_base.specs.Format.{Damage, IsMendable, NoRecord, SplitsOff, Stands}
 
 -- the payloads `abc` and `d`
 abbrev pub abc : List ℕ

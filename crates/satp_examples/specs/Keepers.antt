@@ -1,6 +1,6 @@
 -- Journals of ledgers, and operations on a ledger that is kept in one.
 use Rattle.std.proofs.Common.{lit≤}
-use Rattle.std.specs.Prelude.{◌≡◌, ℕ, List, [], ◌∷◌, Option, Some, None, Result, Ok, Err, true, false, ◌^◌, ◌-◌}
+use Rattle.std.specs.Prelude.{◌≡◌, ℕ, List, [], ◌∷◌, Some, Result, Ok, Err, true, false}
 use Rattle.satp_base.specs.Acts.{founded}
 use Rattle.satp_base.specs.Calls.{Told, made}
 use Rattle.satp_base.specs.Money.{Book}

@@ -17,7 +17,6 @@ use Rattle.satp_base.specs.declared.ledger.Entry.TheVariants.{Absent, Locked, Bu
 use Rattle.satp_base.specs.declared.ledger.LedgerOp.{LedgerOp}
 use Rattle.satp_base.specs.declared.ledger.LedgerOp.TheVariants.{Lock, Burn, Mint, Assign, Release}
 use Rattle.satp_base.specs.declared.message.Terms.{Terms}
-use Rattle.satp_base.specs.declared.name.Name.{Name}
 use Rattle.satp_examples.specs.Samples.{alpha_1, alpha_2, ann, bob, gold, quarter, salt, units}
 
 abbrev pub with_gold : Founding

@@ -18,3 +18,5 @@ pub mod Memory
 pub mod Appending
 pub mod Keepers
 pub mod SetUps
+pub mod Deals
+pub mod Commands

@@ -1,5 +1,5 @@
 -- Messages and their canonical texts, and forms that are no message's.
-use Rattle.std.specs.Prelude.{◌≡◌, ℕ, List, [], ◌∷◌, ◌++◌, codes, replicate}
+use Rattle.std.specs.Prelude.{ℕ, List, [], ◌∷◌, codes, replicate}
 use Rattle.satp_base.specs.Canonical.{IsText}
 use Rattle.satp_base.specs.Chains.{zero_link}
 use Rattle.satp_base.specs.Forms.{IsBody, IsLink, IsMessage, IsPlace, IsPart}

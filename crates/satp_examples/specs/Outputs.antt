@@ -1,16 +1,16 @@
 -- A ledger of outputs: ann's 100, 200 and 300 units of gold, and what a lock of 250 takes.
 use Rattle.std.proofs.Common.{lit≤}
-use Rattle.std.specs.Prelude.{◌≡◌, ◌≤◌, ℕ, List, [], ◌∷◌, Some, None, Result, Ok, Err}
+use Rattle.std.specs.Prelude.{◌≡◌, ◌≤◌, ℕ, List, [], ◌∷◌, Some, None, Ok, Err}
 use Rattle.satp_base.specs.Numbers.{greatest_amount}
 use Rattle.satp_base.specs.declared.genesis.Hold.{Hold}
 use Rattle.satp_base.specs.declared.ledger.Answer.TheVariants.{Done, NoFunds}
 use Rattle.satp_base.specs.declared.ledger.CoreFault.TheVariants.{Memory}
-use Rattle.satp_base.specs.declared.ledger.Entry.TheVariants.{Absent, Locked, Burnt, Minted}
+use Rattle.satp_base.specs.declared.ledger.Entry.TheVariants.{Absent, Locked, Minted}
 use Rattle.satp_base.specs.declared.ledger.LedgerOp.TheVariants.{Lock, Burn, Mint, Assign, Release}
 use Rattle.satp_base.specs.declared.message.Terms.{Terms}
 use Rattle.satp_base.specs.declared.name.Name.{Name}
 use Rattle.satp_outputs.specs.Steps.{EndsAt, Leaves}
-use Rattle.satp_outputs.specs.Unspent.{Numbered, Unspent, after_lock, asset_sum, first_unspent, output_at, own_sum, stepped, unspent_after}
+use Rattle.satp_outputs.specs.Unspent.{Unspent, after_lock, asset_sum, first_unspent, output_at, own_sum, stepped, unspent_after}
 use Rattle.satp_outputs.specs.declared.output.Output.{Output}
 use Rattle.satp_examples.specs.Samples.{ann, bob, gold, quarter, salt, units}
 

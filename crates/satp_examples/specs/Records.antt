@@ -1,6 +1,6 @@
 -- Records and their payloads, byte by byte.
 use Rattle.std.proofs.Common.{refl, lit≤}
-use Rattle.std.specs.Prelude.{◌≡◌, ℕ, List, [], ◌∷◌, ◌++◌, codes, replicate, length, Result, Ok, Err}
+use Rattle.std.specs.Prelude.{◌≡◌, ℕ, List, [], ◌∷◌, ◌++◌, codes, replicate, Ok, Err}
 use Rattle.satp_base.specs.declared.address.Address.{Address}
 use Rattle.satp_base.specs.declared.ledger.LedgerKind.TheVariants.{Outputs}
 use Rattle.satp_base.specs.declared.ledger.LedgerOp.TheVariants.{Lock}

@@ -3,7 +3,6 @@ use Rattle.std.specs.Prelude.{◌≡◌, List, [], ◌∷◌, ◌++◌, take, tr
 use Rattle.satp_base.specs.Roles.{After, AreAllowed, Gives, RoleRule, next_of}
 use Rattle.satp_base.specs.Tales.{eleven}
 use Rattle.satp_base.specs.Views.{KeepsTale, begin, nothing_done, push, view_from, view_of}
-use Rattle.satp_base.specs.declared.ledger.Answer.{Answer}
 use Rattle.satp_base.specs.declared.ledger.Answer.TheVariants as answer
 use Rattle.satp_base.specs.declared.ledger.Entry.TheVariants.{Locked}
 use Rattle.satp_base.specs.declared.ledger.LedgerOp.TheVariants.{Lock, Burn, Mint, Assign, Release}

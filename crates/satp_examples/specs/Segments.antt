@@ -1,6 +1,6 @@
 -- The events of an append and of an opening, and the cuts of them.
-use Rattle.std.specs.Prelude.{◌≡◌, ℕ, List, [], ◌∷◌}
-use Rattle.satp_base.specs.Segments.{IsCut, append_events, open_events, wants_gate}
+use Rattle.std.specs.Prelude.{◌≡◌, List, [], ◌∷◌}
+use Rattle.satp_base.specs.Segments.{IsCut, append_events, open_events}
 use Rattle.satp_base.specs.declared.area.Area.TheVariants.{JournalA, JournalB}
 use Rattle.satp_base.specs.declared.area.Event.{Event}
 use Rattle.satp_base.specs.declared.area.Event.TheVariants.{Wrote, Synced, Left}

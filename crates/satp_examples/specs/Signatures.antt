@@ -1,5 +1,5 @@
 -- Texts as they are signed, and the texts of a chain of two.
-use Rattle.std.specs.Prelude.{◌≡◌, ◌≢◌, ℕ, List, [], ◌∷◌, ◌++◌, codes, length, replicate}
+use Rattle.std.specs.Prelude.{◌≡◌, ℕ, List, [], ◌∷◌, ◌++◌, codes, replicate}
 use Rattle.sha2.specs.Sha256.{sha256}
 use Rattle.satp_base.specs.Canonical.{canonical}
 use Rattle.satp_base.specs.Chains.{ChainOf, head_of, link_of, role_at, texts_of, zero_link}

@@ -1,8 +1,8 @@
 -- The steps of a site, their events, and the points at which it may stop.
-use Rattle.std.specs.Prelude.{◌≡◌, List, [], ◌∷◌, ◌++◌}
+use Rattle.std.specs.Prelude.{◌≡◌, [], ◌∷◌, ◌++◌}
 use Rattle.satp_base.specs.Calls.{made}
 use Rattle.satp_base.specs.Segments.{append_events}
-use Rattle.satp_base.specs.Stops.{AllPayloads, FailsIn, Kept, NextStands, Step, after_steps, segments, step_events, told_steps}
+use Rattle.satp_base.specs.Stops.{AllPayloads, FailsIn, Kept, NextStands, after_steps, segments, step_events, told_steps}
 use Rattle.satp_base.specs.Stops.Step.{Operates, Says, Stores}
 use Rattle.satp_base.specs.declared.area.Area.TheVariants.{JournalA}
 use Rattle.satp_base.specs.declared.area.Event.TheVariants.{Acted}

@@ -1,8 +1,7 @@
 -- Tales, and lists of kinds that are none by one kind.
-use Rattle.std.specs.Prelude.{◌≡◌, List, [], ◌∷◌, ◌++◌, take, true, false}
+use Rattle.std.specs.Prelude.{◌≡◌, [], ◌∷◌, ◌++◌, take, true, false}
 use Rattle.satp_base.specs.Tales.{IsTale, eleven, is_committed, is_rolled_back, is_whole}
-use Rattle.satp_base.specs.declared.message.Kind.{Kind}
-use Rattle.satp_base.specs.declared.message.Kind.TheVariants.{TransferProposal, ProposalReceipt, TransferCommence, CommitReady, TransferComplete, Reject, Rollback, RollbackAck, Recover}
+use Rattle.satp_base.specs.declared.message.Kind.TheVariants.{TransferProposal, ProposalReceipt, TransferCommence, Reject, Rollback, RollbackAck, Recover}
 
 pub record ThreeForms : Type 0 where
   pub no_message : IsTale []

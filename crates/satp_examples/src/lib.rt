@@ -6,6 +6,8 @@
 mod acts;
 mod appending;
 mod calls;
+mod commands;
+mod deals;
 mod disks;
 mod genesis;
 mod journals;
@@ -26,6 +28,8 @@ mod wires;
 pub use acts::law_acts;
 pub use appending::law_kept_journals;
 pub use calls::law_calls;
+pub use commands::law_commands;
+pub use deals::law_deals;
 pub use disks::law_disks;
 pub use genesis::law_genesis;
 pub use journals::law_journals;

@@ -1,19 +1,17 @@
-use Rattle.std.proofs.Common.{◌≡◌, ◌≤◌, ◌+◌, ◌-◌, ℕ, Bool, true, false, cond, List, [], ◌∷◌, Option, Some, None, option_map, refl, sym, ap, ◌∙◌, subst, inl, inr, arith, lit≤, rules}
+use Rattle.std.proofs.Common.{◌≡◌, ◌≤◌, ◌+◌, ◌-◌, ℕ, Bool, true, false, cond, List, [], ◌∷◌, Some, None, option_map, refl, sym, ap, ◌∙◌, subst, inl, inr, arith, lit≤, rules}
 use Rattle.std.specs.FinMap as map
 use Rattle.std.specs.List.{sum_by}
-use Rattle.std.specs.Option.{option_map_or}
 use Rattle.std.specs.Prelude.{unwrap_or}
 use Rattle.satp_base.specs.Acts.{operation_events}
 use Rattle.satp_base.specs.Founding.{counted, equal_names}
 use Rattle.satp_base.specs.Keys.{session_cmp}
 use Rattle.satp_base.specs.LedgerRule.{IsOutOfOrder, Operation, entry_of}
-use Rattle.satp_base.specs.Money.{Book, cap_of, given, given_to_all, pledged, taken, taken_of_all}
+use Rattle.satp_base.specs.Money.{Book, cap_of, given, taken, taken_of_all}
 use Rattle.satp_base.specs.declared.area.Event.{Event}
 use Rattle.satp_base.specs.declared.genesis.Asset.{Asset}
 use Rattle.satp_base.specs.declared.ledger.Entry.TheVariants.{Absent, Locked}
 use Rattle.satp_base.specs.declared.ledger.LedgerEntry.{LedgerEntry}
 use Rattle.satp_base.specs.declared.ledger.LedgerOp.TheVariants.{Lock, Burn}
-use Rattle.satp_base.specs.declared.name.Name.{Name}
 use Rattle.satp_base.specs.declared.session.SessionId.{SessionId}
 use Rattle.satp_base.proofs.SessionLemmas.{sessions_total}
 use Rattle.satp_examples.specs.Acts.{overdrawn}

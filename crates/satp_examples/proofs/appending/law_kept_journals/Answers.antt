@@ -1,9 +1,9 @@
-use Rattle.std.proofs.Common.{◌≡◌, ◌<◌, ◌+◌, ℕ, zero, suc, true, false, List, [], ◌∷◌, ◌++◌, Option, Some, None, option_map, Ok, Err, ◌⊎◌, length, refl, sym, ap, subst, inl, inr, arith, lit<, rules}
+use Rattle.std.proofs.Common.{◌≡◌, ◌<◌, ◌+◌, ℕ, zero, suc, List, [], ◌∷◌, Option, Some, option_map, Ok, Err, ◌⊎◌, length, refl, sym, ap, subst, inl, inr, arith, lit<, rules}
 use Rattle.std.specs.Option.{option_map_or}
 use Rattle.std.specs.Prelude.{slice_index}
 use Rattle.satp_base.specs.Calls.{FailsAmong, Told, made}
-use Rattle.satp_base.specs.Format.{Breaks, Damage, EndsAt, IsAtRest, NoRecord, Stands, records}
-use Rattle.satp_base.specs.Segments.{append_events, open_events}
+use Rattle.satp_base.specs.Format.{Damage, IsAtRest, Stands}
+use Rattle.satp_base.specs.Segments.{open_events}
 use Rattle.satp_base.specs.Trail.{IsImage, seen}
 use Rattle.satp_base.specs.declared.area.Area.TheVariants.{JournalA}
 use Rattle.satp_base.specs.declared.area.Event.TheVariants.{Wrote}
@@ -14,8 +14,8 @@ use Rattle.satp_journal.specs.Opening.{mend_calls}
 use Rattle.satp_journal.specs.State.{Held}
 use Rattle.satp_journal.specs.declared.fault.JournalFault.TheVariants.{Damaged}
 use Rattle.satp_journal.specs.declared.list.Unread.TheVariants as unread
-use Rattle.satp_examples.specs.Appending.{Opens, append, opened, at_rest, closed, damaged, held, of_seven, synced, uncalled}
-use Rattle.satp_examples.specs.Journals.{abc, abc_then, d}
+use Rattle.satp_examples.specs.Appending.{Opens, append, opened, at_rest, closed, damaged, of_seven, synced, uncalled}
+use Rattle.satp_examples.specs.Journals.{abc, abc_then}
 use Rattle.satp_examples.proofs.Images.{breaks, is_damaged, is_whole}
 use Rattle.satp_examples.proofs.appending.law_kept_journals.Goals as goal
 

@@ -1,4 +1,4 @@
-use Rattle.std.proofs.Common.{◌≡◌, ℕ, zero, suc, ◌+◌, List, [], ◌∷◌, ◌++◌, Option, Some, None, refl, ap, inl, inr, arith}
+use Rattle.std.proofs.Common.{◌≡◌, ℕ, zero, suc, List, [], ◌∷◌, Option, Some, refl, ap, inl, inr, arith}
 use Rattle.std.specs.Option.{option_map_or}
 use Rattle.satp_base.specs.Calls.{FailsAmong, Told, made}
 use Rattle.satp_base.specs.declared.area.Area.TheVariants.{JournalA}

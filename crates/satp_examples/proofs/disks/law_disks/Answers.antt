@@ -1,9 +1,7 @@
-use Rattle.std.proofs.Common.{◌≡◌, ◌<◌, ℕ, List, [], ◌∷◌, ◌++◌, refl, arith, lit≤, rules}
-use Rattle.std.specs.Prelude.{slice_index}
-use Rattle.satp_base.specs.Trail.{KeepsModel, IsOutside}
+use Rattle.std.proofs.Common.{[], ◌∷◌, refl, arith, lit≤, rules}
+use Rattle.satp_base.specs.Trail.{KeepsModel}
 use Rattle.satp_base.specs.declared.area.Area.TheVariants.{JournalA, JournalB, Ledger}
-use Rattle.satp_base.specs.declared.area.Event.TheVariants.{Left}
-use Rattle.satp_examples.specs.Disks.{MayLeave, behind, failed_write, one_write, one_write_synced}
+use Rattle.satp_examples.specs.Disks.{MayLeave, behind, failed_write, one_write}
 use Rattle.satp_examples.proofs.disks.law_disks.Goals as goal
 
 could_leave : MayLeave one_write (1 ∷ 0 ∷ 3 ∷ [])

@@ -1,9 +1,8 @@
-use Rattle.std.proofs.Common.{◌≡◌, ◌≢◌, ◌≤◌, ◌<◌, ◌+◌, ℕ, Bool, true, false, cond, List, [], ◌∷◌, ◌++◌, length, Some, None, option_map, refl, sym, ap, inl, inr, arith, lit≤, lit<, rules}
-use Rattle.std.specs.Prelude.{unwrap_or}
-use Rattle.satp_base.specs.Founding.{Founding, counted, equal_names}
-use Rattle.satp_base.specs.Lines.{Runs, StopsAt, is_line, lines_text}
+use Rattle.std.proofs.Common.{◌≡◌, ◌≢◌, ◌≤◌, ◌<◌, ◌+◌, ℕ, true, List, [], ◌∷◌, ◌++◌, length, Some, refl, sym, ap, arith, lit≤, lit<, rules}
+use Rattle.satp_base.specs.Founding.{Founding}
+use Rattle.satp_base.specs.Lines.{Runs, is_line, lines_text}
 use Rattle.satp_base.specs.declared.genesis.Asset.{Asset}
-use Rattle.satp_examples.specs.Genesis.{Takes, a, b, gold_1000}
+use Rattle.satp_examples.specs.Genesis.{Takes, a, b}
 use Rattle.satp_examples.specs.Samples.{gold, salt}
 use Rattle.satp_examples.proofs.Books.{gold_genesis, no_genesis}
 use Rattle.satp_examples.proofs.genesis.law_genesis.Goals as goal

@@ -1,5 +1,5 @@
-use Rattle.std.proofs.Common.{◌≡◌, ◌≢◌, ◌≤◌, ℕ, ◌⊎◌, List, [], ◌∷◌, ◌++◌, length, refl, sym, ap, ◌∙◌, subst, inl, inr, arith, lit≤, lit<, rules}
-use Rattle.satp_base.specs.Format.{Damage, EndsAt, IsMendable, IsPayload, NoRecord, SplitsOff, Stands, StandsOpened, records}
+use Rattle.std.proofs.Common.{◌≢◌, ℕ, ◌⊎◌, List, [], ◌∷◌, ◌++◌, refl, sym, subst, inl, inr, arith, lit≤, lit<, rules}
+use Rattle.satp_base.specs.Format.{Damage, EndsAt, IsMendable, NoRecord, Stands, records}
 use Rattle.satp_base.proofs.Readings.{never_both, one_damage, one_end, record_there, record_not_there}
 use Rattle.satp_examples.specs.Journals.{abc, abc_then, d}
 use Rattle.satp_examples.proofs.journals.law_journals.Goals as goal

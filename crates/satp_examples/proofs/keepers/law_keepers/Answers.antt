@@ -10,11 +10,11 @@ use Rattle.satp_base.specs.declared.ledger.LedgerKind.TheVariants.{Accounts}
 use Rattle.satp_journal.specs.State.{Held}
 use Rattle.satp_records.specs.Formats.{payload_of}
 use Rattle.satp_records.specs.declared.stored.Stored.TheVariants as stored
-use Rattle.satp_keeper.specs.Books.{IsFirstRefused, IsJournal, IsLedger, Operated, Runs, act_record, asset_record, hold_record}
+use Rattle.satp_keeper.specs.Books.{IsFirstRefused, IsJournal, Operated, Runs, act_record, asset_record, hold_record}
 use Rattle.satp_keeper.specs.Operating.{Stores}
 use Rattle.satp_examples.specs.Acts.{locked}
 use Rattle.satp_examples.specs.Appending.{at_rest}
-use Rattle.satp_examples.specs.Keepers.{LeavesBy, accounts, burn, kept, lock, lock_payload, outputs, stored_lock, with_lock}
+use Rattle.satp_examples.specs.Keepers.{accounts, burn, kept, lock, lock_payload, outputs, stored_lock, with_lock}
 use Rattle.satp_examples.specs.Ledgers.{new_book}
 use Rattle.satp_examples.specs.Samples.{units}
 use Rattle.satp_examples.proofs.Books.{gold_genesis, lock_changes, lock_is, lock_leaves, lock_rule, locked_is, locked_rule, no_burn, no_genesis}

@@ -1,12 +1,9 @@
-use Rattle.std.proofs.Common.{◌≡◌, ◌≢◌, ◌≤◌, ◌<◌, ◌+◌, ◌-◌, ℕ, true, false, List, [], ◌∷◌, Some, None, Option, refl, sym, ap, ◌∙◌, subst, inl, inr, arith, lit≤, lit<, rules, cond}
+use Rattle.std.proofs.Common.{◌≡◌, ◌≢◌, ℕ, false, [], ◌∷◌, Some, None, Option, refl, sym, ap, ◌∙◌, subst, inl, inr, arith, lit<, rules}
 use Rattle.std.specs.FinMap as map
-use Rattle.std.specs.List.{sum_by}
 use Rattle.std.specs.Option.{option_map_or}
-use Rattle.std.specs.Ordering.{eq_by_cmp}
 use Rattle.satp_base.specs.Keys.{session_cmp}
-use Rattle.satp_base.specs.LedgerRule.{IsOutOfOrder, LedgerRule, RuleOn, entry_of, is_always_answered, leads, moved, result_of, operation, operation_on, terms_of}
-use Rattle.satp_base.specs.Ledgers.{Entries}
-use Rattle.satp_base.specs.Money.{Book, cap_of, free_of, free_sum_of, given, given_to_all, held, held_of_all, pledged, sum_entries, taken, taken_of_all, total_of}
+use Rattle.satp_base.specs.LedgerRule.{RuleOn, entry_of, is_always_answered, leads, moved, result_of, operation, operation_on, terms_of}
+use Rattle.satp_base.specs.Money.{Book}
 use Rattle.satp_base.specs.declared.ledger.Answer.{Answer}
 use Rattle.satp_base.specs.declared.ledger.Answer.TheVariants.{Done, NoFunds, UnknownAsset, Capped, Taken}
 use Rattle.satp_base.specs.declared.ledger.Entry.{Entry}
@@ -15,13 +12,10 @@ use Rattle.satp_base.specs.declared.ledger.LedgerEntry.{LedgerEntry}
 use Rattle.satp_base.specs.declared.ledger.LedgerOp.{LedgerOp}
 use Rattle.satp_base.specs.declared.ledger.LedgerOp.TheVariants.{Lock, Burn, Mint, Assign, Release}
 use Rattle.satp_base.specs.declared.message.Terms.{Terms}
-use Rattle.satp_base.specs.declared.name.Name.{Name}
-use Rattle.satp_base.specs.declared.session.SessionId.{SessionId}
-use Rattle.satp_base.proofs.SessionLemmas.{exact_sessions, sessions_total}
-use Rattle.satp_money.proofs.Maps.{entries_empty}
+use Rattle.satp_base.proofs.SessionLemmas.{sessions_total}
 use Rattle.satp_money.proofs.Steps.{absent_terms, stands}
-use Rattle.satp_examples.specs.Samples.{alpha_1, alpha_2, ann, bob, gold, quarter, salt, units}
-use Rattle.satp_examples.specs.Ledgers.{Amounts, Answers, AnswersTo, HasNoAnswer, Moves, at_most_free, book_with, entries_with, new_book, of_salt, past_what_is_free, with_gold}
+use Rattle.satp_examples.specs.Samples.{alpha_1, alpha_2, ann, quarter, salt}
+use Rattle.satp_examples.specs.Ledgers.{Answers, AnswersTo, HasNoAnswer, Moves, at_most_free, book_with, entries_with, new_book, of_salt, past_what_is_free}
 use Rattle.satp_examples.proofs.Books.{absent, amounts, entry_is, found, free_among, free_first, free_salt, moved_entry, no_entries, one_entry, total_first}
 use Rattle.satp_examples.proofs.ledgers.law_ledgers.Goals as goal
 

@@ -1,9 +1,7 @@
 use Rattle.std.proofs.Common.{◌≡◌, ◌≢◌, ◌<◌, ℕ, zero, suc, List, [], ◌∷◌, refl, inl, inr, arith, lit≤, lit<}
 use Rattle.std.specs.Prelude.{slice_index}
-use Rattle.satp_base.specs.Trail.{IsOutside, Standing, settled, wrote}
+use Rattle.satp_base.specs.Trail.{IsOutside}
 use Rattle.satp_memory.specs.Picks.{Fills}
-use Rattle.satp_examples.specs.Disks.{three}
-use Rattle.satp_examples.specs.Memory.{PicksHere}
 use Rattle.satp_examples.proofs.memory.law_memory.Goals as goal
 
 abbrev now : List ℕ

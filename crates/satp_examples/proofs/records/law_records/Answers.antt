@@ -1,4 +1,4 @@
-use Rattle.std.proofs.Common.{◌≡◌, ◌≢◌, ◌≤◌, ℕ, false, true, refl, ap, arith, lit≤}
+use Rattle.std.proofs.Common.{◌≡◌, ◌≢◌, ◌≤◌, false, true, refl, ap, arith, lit≤}
 use Rattle.satp_base.specs.declared.name.Name.{Name}
 use Rattle.satp_records.specs.Reading.{part_at}
 use Rattle.satp_examples.specs.Samples.{alpha, beta}

@@ -1,16 +1,12 @@
-use Rattle.std.proofs.Common.{◌≡◌, false, List, [], ◌∷◌, ◌++◌, refl, inl, inr, lit≤, take}
-use Rattle.satp_base.specs.Roles.{After, Other, RoleRule}
+use Rattle.std.proofs.Common.{◌≡◌, false, [], ◌∷◌, ◌++◌, refl, inl, inr, lit≤, take}
 use Rattle.satp_base.specs.Roles.RoleRule.{Due, Answered, Free}
 use Rattle.satp_base.specs.Tales.{IsTale, eleven, last_of}
 use Rattle.satp_base.specs.Tales.IsTale.{Onward}
-use Rattle.satp_base.specs.declared.ledger.Answer.{Answer}
 use Rattle.satp_base.specs.declared.ledger.Answer.TheVariants as answer
-use Rattle.satp_base.specs.declared.ledger.LedgerOp.{LedgerOp}
 use Rattle.satp_base.specs.declared.ledger.LedgerOp.TheVariants.{Lock, Burn, Mint}
 use Rattle.satp_base.specs.declared.message.Kind.{Kind}
 use Rattle.satp_base.specs.declared.message.Kind.TheVariants.{CommenceAck, LockAssert, TransferCommence}
 use Rattle.satp_base.specs.declared.record.Cause.TheVariants.{Aborted, Rejected}
-use Rattle.satp_base.specs.declared.record.Rec.{Rec}
 use Rattle.satp_base.specs.declared.record.Rec.TheVariants.{Took, Made, Did, Chose, Rescue}
 use Rattle.satp_base.specs.declared.record.Way.TheVariants.{Commit, Back}
 use Rattle.satp_base.proofs.RoleLemmas.{after-chose, after-did, after-shape}

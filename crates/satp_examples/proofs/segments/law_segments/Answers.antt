@@ -1,4 +1,4 @@
-use Rattle.std.proofs.Common.{◌≡◌, ℕ, zero, suc, List, [], ◌∷◌, refl, inl, inr}
+use Rattle.std.proofs.Common.{ℕ, zero, suc, List, [], ◌∷◌, refl, inl, inr}
 use Rattle.satp_base.specs.declared.area.Area.TheVariants.{JournalA, JournalB}
 use Rattle.satp_base.specs.declared.area.Event.TheVariants.{Left}
 use Rattle.satp_examples.specs.Journals.{abc_then}

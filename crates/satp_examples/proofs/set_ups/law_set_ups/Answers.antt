@@ -1,4 +1,4 @@
-use Rattle.std.proofs.Common.{◌≡◌, ◌≢◌, ◌<◌, ◌+◌, ◌⊎◌, ℕ, List, [], ◌∷◌, ◌++◌, length, Option, Some, None, option_map, Ok, Err, refl, ap, inl, inr, arith, rules, length-append}
+use Rattle.std.proofs.Common.{◌≡◌, ◌≢◌, ℕ, [], ◌∷◌, length, Option, Some, None, option_map, Ok, Err, refl, ap, inl, inr, arith, rules, length-append}
 use Rattle.std.specs.Option.{option_map_or}
 use Rattle.satp_base.specs.Calls.{Told, made}
 use Rattle.satp_base.specs.Segments.{append_events}

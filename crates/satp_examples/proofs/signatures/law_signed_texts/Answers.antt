@@ -1,12 +1,10 @@
-use Rattle.std.proofs.Common.{◌≡◌, ℕ, false, List, [], ◌∷◌, length, refl, ap, arith, lit≤}
+use Rattle.std.proofs.Common.{◌≡◌, [], ◌∷◌, length, refl, ap, arith, lit≤}
 use Rattle.base64.specs.Rfc4648.{encode_symbols}
 use Rattle.satp_base.specs.Chains.{texts_from}
 use Rattle.satp_base.specs.Signatures.{encoded, jws, own}
-use Rattle.satp_base.specs.Tales.{IsTale, eleven, last_of}
 use Rattle.satp_base.specs.Tales.IsTale.{Onward}
 use Rattle.satp_base.specs.declared.message.Kind.TheVariants.{TransferProposal, TransferCommence}
 use Rattle.satp_base.proofs.TaleTable.{extends-by}
-use Rattle.satp_examples.specs.Signatures.{first_text, proposal, receipt, second_text}
 use Rattle.satp_examples.proofs.signatures.law_signed_texts.Goals as goal
 
 pub returns-clause-signatures : goal.returns-clause-signatures

@@ -1,4 +1,4 @@
-use Rattle.std.proofs.Common.{◌≡◌, List, [], ◌∷◌, refl, ap, arith, rules}
+use Rattle.std.proofs.Common.{refl, ap, arith, rules}
 use Rattle.satp_base.specs.Acts.{operation_events}
 use Rattle.satp_base.specs.LedgerRule.{Operation}
 use Rattle.satp_base.specs.declared.ledger.LedgerOp.TheVariants.{Lock, Burn}

@@ -1,2 +1,3 @@
 mod ChainedLemmas
 mod LawLemmas
+pub mod WholeLemmas

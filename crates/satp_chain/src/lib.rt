@@ -6,5 +6,5 @@ mod laws;
 mod signed;
 
 pub use chain::Chain;
-pub use laws::law_chains;
+pub use laws::{law_chains, law_whole};
 pub use signed::{Signed, Verdict};

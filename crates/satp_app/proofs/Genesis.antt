@@ -39,4 +39,4 @@ module _ (b a : SourceState) (bytes : List ℕ) (read : ReadTo (most_bytes + 1) 
           record { read = read; bytes = told; is_input = subst (λ o. IfSome o (λ t. told ≡ t)) (sym e) refl; holds = omega (arith, length-take (most_bytes + 1) told, more) }
 
 pub refused_at : (number : ℕ) (f : LinesFault) (shown bytes : List ℕ) → shown ≡ bytes → f ≡ Line number → length bytes ≤ most_bytes → Fails AcceptsLine most_bytes shown nothing f → IsRefusedAt number bytes
-refused_at number f shown bytes same is short fails = (short, subst (λ (x : List ℕ). StopsAt AcceptsLine x nothing number) same (subst (λ y. Fails AcceptsLine most_bytes shown nothing y) is fails))
+refused_at number f shown bytes same is short fails = (short, subst (λ (x : List ℕ). StopsAt AcceptsLine x nothing number) same (subst (λ y. Fails AcceptsLine most_bytes shown nothing y) is fails).1)

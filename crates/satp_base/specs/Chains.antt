@@ -1,9 +1,9 @@
 -- The texts of a chain, which its parts determine.
-use Rattle.std.specs.Prelude.{◌≡◌, ℕ, zero, suc, ◌+◌, ◌-◌, ◌%◌, ◌==◌, List, [], ◌∷◌, ◌++◌, map, length, replicate, slice_get, if◌then◌else◌}
+use Rattle.std.specs.Prelude.{◌≡◌, ℕ, zero, suc, ◌+◌, ◌-◌, ◌%◌, ◌==◌, List, [], ◌∷◌, ◌++◌, map, length, replicate, slice_get, Some, if◌then◌else◌}
 use Rattle.std.specs.List.{AllByRecursion}
 use Rattle.std.specs.Option.{option_map_or}
 use Rattle.sha2.specs.Sha256.{sha256}
-use Rattle.satp_base.specs.Tales.{IsTale, other}
+use Rattle.satp_base.specs.Tales.{IsTale, maker, other}
 use Rattle.satp_base.specs.Canonical.{part_kind}
 use Rattle.satp_base.specs.Forms.{IsPart}
 use Rattle.satp_base.specs.Signatures.{own}
@@ -90,3 +90,7 @@ AppendsText =
     (session : SessionId) (recipient : Name) (key : List ℕ) (parts : List Part) (part : Part)
     → texts_of session recipient key (parts ++ part ∷ [])
     ≡ texts_of session recipient key parts ++ next_text session recipient key (texts_of session recipient key parts) part ∷ []
+
+-- the next message of a tale is made by the side whose place it is
+abbrev pub SidesTakeTurns : Type 0
+SidesTakeTurns = (tale : List Kind) (k : Kind) → IsTale tale → IsTale (tale ++ k ∷ []) → maker k ≡ Some (role_at (length tale + 1))

@@ -46,7 +46,8 @@ module _ {R : Type 0} (accepts : R → List ℕ → R → Type 0) where
     pub more : rest ≢ []
     pub refused : (line behind : List ℕ) → is_line line ≡ true → rest ≡ line ++ 10 ∷ behind → (next : R) → ¬ accepts reached line next
 
+  -- a text that is too long is that before any of its lines is looked at
   abbrev pub Fails : ℕ → List ℕ → R → LinesFault → Type 0
   Fails most text start (Long n) = (n ≡ length text) × (most < length text)
-  Fails most text start (Line number) = StopsAt text start number
+  Fails most text start (Line number) = (length text ≤ most) × StopsAt text start number
   Fails most text start Memory = Unit {0}

@@ -55,6 +55,6 @@ pub use site::{Ledger, LedgerCore, Site, SiteFault};
 pub use stream::{Sink, SinkFault, Source, SourceFault};
 pub use tale::Tale;
 pub use text::{Memory, Text, Texts};
-pub use text_laws::{law_next_text, law_one_own_text, law_signatures};
+pub use text_laws::{law_next_text, law_one_own_text, law_signatures, law_turns};
 pub use view::{Done, View};
 pub use wire::{Dial, Wire, WireFault};

@@ -1,4 +1,4 @@
-ghost use Rattle.std.specs.Prelude.{◌≡◌, List, [], Option, Some, IfOk, IfErr, IfSome};
+ghost use Rattle.std.specs.Prelude.{◌≡◌, List, [], Option, Some, None, IfOk, IfErr, IfSome};
 ghost use Rattle.satp_base.specs.Streams.{HasCause};
 ghost use Rattle.satp_base.specs.Calls.{Told, asked, made};
 ghost use Rattle.satp_base.specs.Money.{Book, free_of, free_sum_of, total_of};
@@ -32,11 +32,13 @@ pub trait Ledger: Device {
     ///
     /// `OutOfOrder` comes exactly where the rule has no answer.
     /// A failed operation took effect or did not; it takes effect, if at all, before the call ends.
+    /// A ledger that tells nothing doesn't begin to tell by an operation.
     fn act(&mut self, op: LedgerOp, session: SessionId, terms: &Terms) -> Result<Answer, ActFault>
         ensures answer { IfOk result (MayAnswer op) }
         ensures told { (events : List Event) × MayAdd (Acted op session terms.now) result events
             × IfSome (Self.book self.old) (λ b. ActsOn op session terms.now b result events (Self.book self.new))
             × Asks (Act op session terms.now) events result (Self.told self.old) (Self.told self.new) }
+        ensures untold { Self.book self.old ≡ None → Self.book self.new ≡ None }
         ensures beside { Self.beside self.old self.new }
         ensures cause { HasCause (Self.faults self.old) (Self.faults self.new) result };
 

@@ -4,8 +4,10 @@ use Rattle.std.specs.List.{AllByRecursion}
 use Rattle.serde_json.specs.Data as json
 use Rattle.serde_json.specs.Data.{Data}
 use Rattle.serde_json.specs.Find.{as_object, as_str, get}
-use Rattle.satp_base.specs.Canonical.{Scalar, number, word, Value, scalar, words, fields, kind_of, member_text, row, value}
+use Rattle.satp_base.specs.Canonical.{Scalar, number, word, Value, scalar, words, fields, canonical, kind_of, member_text, row, value}
+use Rattle.satp_base.specs.Forms.{IsMessage}
 use Rattle.satp_base.specs.declared.message.Message.{Message}
+use Rattle.satp_canon.specs.FirstFault.{written}
 
 abbrev pub scalar_data : Scalar → Data
 scalar_data (number n) = json.number (json.unsigned n)
@@ -28,3 +30,7 @@ Holds (fields fs) found = (d : Data) × (found ≡ Some d) × IsTrue (is_some (a
 -- each member of the message's kind stands in the object with its value
 abbrev pub Reads : Message → Data → Type 0
 Reads m d = AllByRecursion (λ n. Holds (value m n) (get (member_text n) d)) (row (kind_of m.body))
+
+-- what is written for the values of a message is its canonical text
+abbrev pub WritesItsText : Type 0
+WritesItsText = (m : Message) (d : Data) → IsMessage m → Reads m d → written d ≡ canonical m

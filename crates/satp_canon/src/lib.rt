@@ -5,6 +5,7 @@ mod entries;
 mod fault;
 #[cfg(test)]
 mod kind_tests;
+mod laws;
 mod link;
 mod members;
 mod messages;
@@ -17,6 +18,7 @@ mod values;
 mod writer;
 
 pub use fault::CanonFault;
+pub use laws::law_written;
 pub use link::{link_of, link_read, link_text};
 pub use reader::read;
 pub use satp_base::MemberName;

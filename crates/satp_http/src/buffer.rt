@@ -36,7 +36,8 @@ impl Buffer {
 
     /// Adds as much of the piece as there is room for, and says how much that was.
     pub(crate) fn add(&mut self, piece: &[u8]) -> usize
-        ensures { Adds piece.now self.old self.new result }
+        ensures adds { Adds piece.now self.old self.new result }
+        ensures most { length self.new ≤ 16384 }
     {
         let count = piece.len().min(ROOM - self.bytes.len());
         let _ = self.bytes.extend_from_slice(&piece[..count]);

@@ -67,6 +67,7 @@ impl Requests {
     pub fn feed(&mut self, piece: &[u8]) -> usize
         ensures adds { Adds piece.now self.old.held self.new.held result }
         ensures rest { self.new ≡ record self.old { held = self.new.held } }
+        ensures most { length self.new.held ≤ 16384 }
     {
         self.buffer.add(piece)
     }

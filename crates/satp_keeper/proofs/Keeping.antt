@@ -24,7 +24,7 @@ use Rattle.satp_journal.specs.State.{Held}
 use Rattle.satp_records.specs.Formats.{payload_of}
 use Rattle.satp_records.specs.declared.stored.Stored.TheVariants as stored
 use Rattle.satp_keeper.specs.Books.{Leaves}
-use Rattle.satp_keeper.specs.Operating.{IsUnchanged, KeepAnswers, Stores}
+use Rattle.satp_keeper.specs.Operating.{IsUnchanged, KeepAnswers, Stores, act_fault}
 use Rattle.satp_keeper.specs.declared.fault.KeeperFault.{KeeperFault}
 use Rattle.satp_keeper.specs.declared.fault.KeeperFault.TheVariants.{OutOfOrder, Empty, Damaged, Record, Disk, Broken, Memory}
 use Rattle.satp_keeper.proofs.Changes.{done_where_changed, same_where_not}
@@ -134,7 +134,7 @@ module _ (op : LedgerOp) (session : SessionId) (terms : Terms) (b c : Book) (old
         refl,
       )
 
-  pub tells_order : (was now : Bool) (entry : Entry) → was ≡ old.broken → now ≡ new.broken → Answers (Err (OutOfOrder entry)) → TellsAct was now (Err (act.OutOfOrder entry))
+  tells_order : (was now : Bool) (entry : Entry) → was ≡ old.broken → now ≡ new.broken → Answers (Err (OutOfOrder entry)) → TellsAct was now (Err (act.OutOfOrder entry))
   tells_order was now entry w n is = (
     [],
     refl,
@@ -146,7 +146,7 @@ module _ (op : LedgerOp) (session : SessionId) (terms : Terms) (b c : Book) (old
   failed_by : (was now : Bool) → IfSome (book was b) (λ y. ActsOn op session terms y (Err act.Failed) [] (book now c)) → TellsAct was now (Err act.Failed)
   failed_by was now is = ([], inr refl, is, inl refl)
 
-  pub tells_failed : (was now : Bool) (fault : KeeperFault) → was ≡ old.broken → now ≡ new.broken → ((entry : Entry) → fault ≢ OutOfOrder entry) → Answers (Err fault) → TellsAct was now (Err act.Failed)
+  tells_failed : (was now : Bool) (fault : KeeperFault) → was ≡ old.broken → now ≡ new.broken → ((entry : Entry) → fault ≢ OutOfOrder entry) → Answers (Err fault) → TellsAct was now (Err act.Failed)
   tells_failed was now (OutOfOrder entry) w n other is = absurd (other entry refl)
   tells_failed was now Memory w n other is = failed_by was now
       (subst (λ (x : Bool). IfSome (book x b) (λ y. ActsOn op session terms y (Err act.Failed) [] (book now c))) (sym (w ∙ is.0))
@@ -158,6 +158,15 @@ module _ (op : LedgerOp) (session : SessionId) (terms : Terms) (b c : Book) (old
   tells_failed was now Empty w n other is = absurd is
   tells_failed was now (Damaged at) w n other is = absurd is
   tells_failed was now (Record at) w n other is = absurd is
+
+  pub tells_fault : (was now : Bool) (fault : KeeperFault) → was ≡ old.broken → now ≡ new.broken → Answers (Err fault) → TellsAct was now (Err (act_fault fault))
+  tells_fault was now (OutOfOrder entry) w n is = tells_order was now entry w n is
+  tells_fault was now Memory w n is = tells_failed was now Memory w n (λ entry e. let h = e in cc) is
+  tells_fault was now Disk w n is = tells_failed was now Disk w n (λ entry e. let h = e in cc) is
+  tells_fault was now Broken w n is = tells_failed was now Broken w n (λ entry e. let h = e in cc) is
+  tells_fault was now Empty w n is = absurd is
+  tells_fault was now (Damaged at) w n is = absurd is
+  tells_fault was now (Record at) w n is = absurd is
 
 -- the answers of the rule are those that an operation may have
 pub may_answer : (b : Book) (entry : Entry) (op : LedgerOp) (session : SessionId) (terms : Terms) (answer : Answer) (new : Book) → RuleOn b entry op session terms answer new → MayAnswer op answer

@@ -1,15 +1,17 @@
 -- What an operation leaves of the journal.
-use Rattle.std.proofs.Common.{◌≡◌, ◌≤◌, ◌<◌, ◌⊎◌, ℕ, true, false, List, length, Option, Some, None, Ok, Err, option_map, refl, ap, subst, sym, ◌∙◌, arith, ⊎_elim}
+use Rattle.std.proofs.Common.{◌≡◌, ◌≤◌, ◌<◌, ◌⊎◌, ℕ, true, false, List, length, Option, Some, None, Ok, Err, option_map, refl, ap, subst, sym, ◌∙◌, arith, ⊎_elim, inr}
 use Rattle.std.specs.Prelude.{IfSome}
 use Rattle.satp_base.specs.declared.area.Area.{Area}
+use Rattle.satp_base.specs.declared.ledger.Answer.{Answer}
 use Rattle.satp_base.specs.declared.ledger.LedgerOp.{LedgerOp}
 use Rattle.satp_base.specs.declared.message.Terms.{Terms}
 use Rattle.satp_base.specs.declared.session.SessionId.{SessionId}
 use Rattle.satp_base.specs.Calls.{Told, made, FailsAmong}
 use Rattle.satp_base.specs.Format.{IsPayload}
 use Rattle.satp_base.specs.Laws.{RestsAt}
-use Rattle.satp_base.specs.LedgerRule.{operation}
+use Rattle.satp_base.specs.LedgerRule.{LedgerRule, operation}
 use Rattle.satp_base.specs.Money.{Book}
+use Rattle.satp_base.proofs.RuleLemmas.{rule-gives}
 use Rattle.satp_journal.specs.Appending.{AppendAnswers, AppendStops, RestsStill, events_of}
 use Rattle.satp_journal.specs.Opening.{Rests}
 use Rattle.satp_journal.specs.State.{Held}
@@ -39,16 +41,19 @@ append_failed q old new told_old told_new journal.Memory whole enough is = absur
 append_failed q old new told_old told_new journal.Broken whole enough is = absurd (let both = sym whole ∙ is.0 in cc)
 append_failed q old new told_old told_new (journal.Damaged at) whole enough is = absurd is
 
-module _ (op : LedgerOp) (session : SessionId) (terms : Terms) (b : Book) (old mid new : Held) (told_old told_new : Option Told) (payload : List ℕ) where
+module _ (op : LedgerOp) (session : SessionId) (terms : Terms) (b c : Book) (answer : Answer) (old mid new : Held) (told_old told_new : Option Told) (payload : List ℕ) where
   pub keep_failed : (fault : JournalFault) (records bytes : ℕ) → mid ≡ old → payload ≡ payload_of (stored.Act op session terms) → old.broken ≡ false → (operation b op session terms).changes ≡ true → 1 ≤ records → length payload ≤ bytes
       → (fault ≡ journal.Memory → (records < 1) ⊎ (bytes < length payload)) → AppendAnswers payload mid new told_old told_new (Err fault)
+      → LedgerRule b op session terms answer c
       → (old.broken ≡ false) × ((operation b op session terms).changes ≡ true) × (new ≡ record old { broken = true }) × FailsAmong old.area (events_of old (payload_of (stored.Act op session terms))) told_old told_new
-  keep_failed fault records bytes e p whole changes some enough memory is =
+      × ((c ≡ b) ⊎ (c ≡ (operation b op session terms).after))
+  keep_failed fault records bytes e p whole changes some enough memory is rule =
       let r = append_failed payload mid new told_old told_new fault (ap (λ (h : Held). h.broken) e ∙ whole) (λ m. ⊎_elim (λ h. omega (arith, h, some)) (λ h. omega (arith, h, enough)) (memory m)) is in (
         whole,
         changes,
         r.1 ∙ ap (λ (h : Held). let x : Held = record h { broken = true } in x) e,
         subst (λ (h : Held). FailsAmong h.area (events_of h (payload_of (stored.Act op session terms))) told_old told_new) e (subst (λ (x : List ℕ). FailsAmong mid.area (events_of mid x) told_old told_new) p r.2),
+        inr (rule-gives b op session terms answer c rule).1,
       )
 
 rests_on : (old new : Held) (f : Told → Told) (told_old told_new : Option Told) → told_new ≡ option_map f told_old → new.area ≡ old.area → Rests told_old old → RestsStill old.area old.payloads new.payloads told_old told_new → Rests told_new new

@@ -1,6 +1,9 @@
 -- What an operation on a kept ledger answers, and what it leaves.
-use Rattle.std.specs.Prelude.{◌≡◌, ℕ, Bool, true, false, List, [], ◌∷◌, ◌++◌, Option, option_map, Result, Ok, Err}
+use Rattle.std.specs.Prelude.{◌≡◌, ◌⊎◌, ℕ, Bool, true, false, List, [], ◌∷◌, ◌++◌, Option, option_map, Result, Ok, Err}
+use Rattle.satp_base.specs.declared.ledger.ActFault.{ActFault}
+use Rattle.satp_base.specs.declared.ledger.ActFault.TheVariants as act
 use Rattle.satp_base.specs.declared.ledger.Answer.{Answer}
+use Rattle.satp_base.specs.declared.ledger.Entry.{Entry}
 use Rattle.satp_base.specs.declared.ledger.LedgerOp.{LedgerOp}
 use Rattle.satp_base.specs.declared.message.Terms.{Terms}
 use Rattle.satp_base.specs.declared.session.SessionId.{SessionId}
@@ -23,7 +26,7 @@ Stores false q old new told_old told_new = (new ≡ old) × (told_new ≡ told_o
 abbrev pub IsUnchanged : Book → Book → Held → Held → Option Told → Option Told → Type 0
 IsUnchanged b c old new told_old told_new = (c ≡ b) × (new ≡ old) × (told_new ≡ told_old)
 
--- Ok: the rule's answer, stored by one append where an entry changes. Disk: an entry changes, some calls of the append succeeded, and the next one failed.
+-- Ok: the rule's answer, stored by one append where an entry changes. Disk: an entry changes, some calls of the append succeeded, and the next one failed; the ledger has the operation or not.
 -- Every other fault leaves all as it was.
 abbrev pub KeepAnswers : LedgerOp → SessionId → Terms → Book → Book → Held → Held → Option Told → Option Told → Result Answer KeeperFault → Type 0
 KeepAnswers op session terms b c old new told_old told_new (Ok answer) =
@@ -32,7 +35,7 @@ KeepAnswers op session terms b c old new told_old told_new (Err (OutOfOrder entr
 KeepAnswers op session terms b c old new told_old told_new (Err Memory) = (old.broken ≡ false) × IsUnchanged b c old new told_old told_new
 KeepAnswers op session terms b c old new told_old told_new (Err Disk) =
     (old.broken ≡ false) × ((operation b op session terms).changes ≡ true) × (new ≡ record old { broken = true })
-    × FailsAmong old.area (events_of old (payload_of (stored.Act op session terms))) told_old told_new
+    × FailsAmong old.area (events_of old (payload_of (stored.Act op session terms))) told_old told_new × ((c ≡ b) ⊎ (c ≡ (operation b op session terms).after))
 KeepAnswers op session terms b c old new told_old told_new (Err Broken) = (old.broken ≡ true) × IsUnchanged b c old new told_old told_new
 KeepAnswers op session terms b c old new told_old told_new (Err Empty) = ⊥
 KeepAnswers op session terms b c old new told_old told_new (Err (Damaged at)) = ⊥
@@ -61,3 +64,24 @@ ApplyAnswers op session terms b c (Ok x) = LedgerRule b op session terms x.0 c �
 ApplyAnswers op session terms b c (Err (OutOfOrder entry)) = IsOutOfOrder b op session entry × (c ≡ b)
 ApplyAnswers op session terms b c (Err Memory) = c ≡ b
 ApplyAnswers op session terms b c (Err _) = ⊥
+
+-- ---- the same as a ledger
+
+-- a fault of the keeper, as a ledger answers it
+abbrev pub act_fault : KeeperFault → ActFault
+act_fault (OutOfOrder entry) = act.OutOfOrder entry
+act_fault _ = act.Failed
+
+abbrev pub act_answer : Result Answer KeeperFault → Result Answer ActFault
+act_answer (Ok answer) = Ok answer
+act_answer (Err fault) = Err (act_fault fault)
+
+-- an entry is shown where the keeper isn't broken
+abbrev pub shown : Bool → Entry → Result Entry ActFault
+shown true entry = Err act.Failed
+shown false entry = Ok entry
+
+-- a count of the keeper's own faults behind a look: a broken keeper answers no look
+abbrev pub looked : Bool → ℕ → ℕ
+looked true count = risen count 1
+looked false count = count

@@ -10,7 +10,7 @@ ghost use Rattle.satp_records.specs.declared.stored.Stored.TheVariants as stored
 ghost use Rattle.satp_keeper.specs.Books.{Leaves, ledger_payloads};
 ghost use Rattle.satp_keeper.specs.Founding.{FoundStops, IsFoundFault};
 ghost use Rattle.satp_keeper.specs.Opening.{UnopenedBy};
-ghost use Rattle.satp_keeper.specs.Operating.{KeepAnswers, counted, faults_after, wants_after};
+ghost use Rattle.satp_keeper.specs.Operating.{KeepAnswers, act_fault, counted, faults_after, wants_after};
 
 use crate::fault::{KeeperFault, fault_of};
 use crate::founding::set_up;
@@ -219,6 +219,16 @@ fn is_disk(fault: KeeperFault) -> bool
     matches!(fault, KeeperFault::Disk)
 }
 
+/// A fault of the keeper, as a ledger answers it.
+fn act_fault(fault: KeeperFault) -> ActFault
+    ensures { result ≡ act_fault fault }
+{
+    match fault {
+        KeeperFault::OutOfOrder { entry } => ActFault::OutOfOrder { entry },
+        _ => ActFault::Failed,
+    }
+}
+
 impl<C: LedgerCore, D: Disk> Device for Kept<C, D> {
     ghost use Rattle.satp_keeper.specs.Telling.{untold_keeps};
 
@@ -232,15 +242,44 @@ impl<C: LedgerCore, D: Disk> Device for Kept<C, D> {
 }
 
 impl<C: LedgerCore, D: Disk> Ledger for Kept<C, D> {
-    fn act(&mut self, op: LedgerOp, session: SessionId, terms: &Terms) -> Result<Answer, ActFault> {
+    ghost use Rattle.std.specs.Prelude.{◌≡◌, ◌+◌, List, [], None, Some, Result, IfOk, IfErr, IfSome, if◌then◌else◌};
+    ghost use Rattle.satp_base.specs.Streams.{HasCause};
+    ghost use Rattle.satp_base.specs.Acts.{ActsOn, Asks, MayAdd, MayAnswer};
+    ghost use Rattle.satp_base.specs.LedgerRule.{entry_of};
+    ghost use Rattle.satp_base.specs.declared.area.Event.{Event};
+    ghost use Rattle.satp_base.specs.declared.area.Event.TheVariants.{Acted};
+    ghost use Rattle.satp_base.specs.declared.ledger.Answer.{Answer};
+    ghost use Rattle.satp_base.specs.declared.ledger.LedgerCall.TheVariants.{Act, Look};
+    ghost use Rattle.satp_keeper.specs.Operating.{KeepAnswers, act_answer, counted, faults_after, looked, shown, wants_after};
+    ghost use Rattle.satp_keeper.specs.declared.fault.KeeperFault.{KeeperFault};
+
+    /// As [`Kept::act`]. Its `Disk`, `Broken` and `Memory` are answered as `Failed`.
+    fn act(&mut self, op: LedgerOp, session: SessionId, terms: &Terms) -> Result<Answer, ActFault>
+        ensures answer { IfOk result (MayAnswer op) }
+        ensures told { (events : List Event) × MayAdd (Acted op session terms.now) result events
+            × IfSome (if self.old.broken then None else Some (C.book self.old.core)) (λ b. ActsOn op session terms.now b result events (if self.new.broken then None else Some (C.book self.new.core)))
+            × Asks (Act op session terms.now) events result None None }
+        ensures cause { HasCause (D.faults self.old.disk + self.old.tally.faults) (D.faults self.new.disk + self.new.tally.faults) result }
+        ensures kept { (inner : Result Answer KeeperFault) × (result ≡ act_answer inner)
+            × KeepAnswers op session terms.now (C.book self.old.core) (C.book self.new.core) self.old.journal.held self.new.journal.held (D.told self.old.disk) (D.told self.new.disk) inner
+            × (self.new.tally.faults ≡ counted faults_after self.old.tally.faults inner) × (self.new.tally.wants ≡ counted wants_after self.old.tally.wants inner) }
+    {
         match Kept::act(self, op, session, terms) {
             Ok(answer) => Ok(answer),
-            Err(KeeperFault::OutOfOrder { entry }) => Err(ActFault::OutOfOrder { entry }),
-            Err(_) => Err(ActFault::Failed),
+            Err(fault) => Err(act_fault(fault)),
         }
     }
 
-    fn look(&mut self, session: SessionId) -> Result<Entry, ActFault> {
+    /// It fails exactly where a call answered `Disk` before, and makes no call on the disk.
+    fn look(&mut self, session: SessionId) -> Result<Entry, ActFault>
+        ensures shown { result ≡ shown self.old.broken (entry_of (C.book self.old.core).entries session) }
+        ensures faults { self.new.tally.faults ≡ looked self.old.broken self.old.tally.faults }
+        ensures wants { self.new.tally.wants ≡ self.old.tally.wants }
+        ensures core { self.new.core ≡ self.old.core }
+        ensures journal { self.new.journal ≡ self.old.journal }
+        ensures disk { self.new.disk ≡ self.old.disk }
+        ensures broken { self.new.broken ≡ self.old.broken }
+    {
         if self.broken {
             self.tally.note(KeeperFault::Broken);
             return Err(ActFault::Failed);

@@ -232,7 +232,7 @@ impl<C: LedgerCore> Disk for MemSite<C> {
 }
 
 impl<C: LedgerCore> Ledger for MemSite<C> {
-    ghost use Rattle.std.specs.Prelude.{◌≡◌, ◌⊎◌, List, [], Some, is_some, IfOk, IfErr, IfSome, OnErr};
+    ghost use Rattle.std.specs.Prelude.{◌≡◌, ◌⊎◌, List, [], Some, None, is_some, IfOk, IfErr, IfSome, OnErr};
     ghost use Rattle.satp_base.specs.Streams.{HasCause};
     ghost use Rattle.satp_base.specs.Acts.{Asks, MayAnswer};
     ghost use Rattle.satp_base.specs.LedgerRule.{entry_of};
@@ -248,6 +248,7 @@ impl<C: LedgerCore> Ledger for MemSite<C> {
         ensures cause { HasCause self.old.disk.calls.faults self.new.disk.calls.faults result }
         ensures ended { ActEnds (is_refused (is_stopped self.old.disk) self.old.disk.calls) (is_some (option_map C.book self.old.core)) self.old.disk.calls self.new.disk.calls result }
         ensures failed { OnErr result ((option_map C.book self.new.core ≡ option_map C.book self.old.core) × (self.new.disk.events.items ≡ self.old.disk.events.items)) }
+        ensures untold { option_map C.book self.old.core ≡ None → option_map C.book self.new.core ≡ None }
         ensures stop { self.new.disk.stop ≡ self.old.disk.stop }
     {
         let call = LedgerCall::Act {

@@ -8,3 +8,4 @@ pub mod Begins
 pub mod RuleLaw
 pub mod StepLaw
 pub mod TotalsLaw
+pub mod FreeLaw

@@ -23,7 +23,7 @@ use Rattle.satp_money.proofs.Counting.{sum_moved}
 use Rattle.satp_money.proofs.Steps.{absent_terms}
 use Rattle.satp_money.proofs.StepLaw.{Moves, Stays, step_is}
 
-never : false ≡ true → ⊥
+pub never : false ≡ true → ⊥
 never e = cc
 
 -- ---- sums
@@ -292,7 +292,7 @@ lost_is Release Minted t asset = refl
 lost_is Release e t asset = refl
 
 -- an amount that is locked is free before
-abbrev Room : LedgerOp → ℕ → ℕ → Type 0
+abbrev pub Room : LedgerOp → ℕ → ℕ → Type 0
 Room Lock c free = c ≤ free
 Room _ c free = Unit {0}
 
@@ -308,7 +308,7 @@ balances Release Locked x n H G U P G' U' P' l t g p c r = omega arith
 balances Release Minted x n H G U P G' U' P' l t g p c r = omega arith
 balances op e x n H G U P G' U' P' l t g p c r = absurd (never l)
 
-lock_from : (e : Entry) → leads Lock e ≡ true → e ≡ Absent
+pub lock_from : (e : Entry) → leads Lock e ≡ true → e ≡ Absent
 lock_from Absent h = refl
 lock_from e h = absurd (never h)
 
@@ -340,7 +340,7 @@ moved_total b op s t asset sound l w =
     (sound.all_covered asset) (room b op s t asset sound l w)
     ∙ ap (λ x. total_of b asset + x) (sym (made_is op T asset))
 
-true_false : (c : Bool) → c ≡ false → c ≡ true → ⊥
+pub true_false : (c : Bool) → c ≡ false → c ≡ true → ⊥
 true_false c e f = never (sym e ∙ f)
 
 pub totals_move : (b : Book) (op : LedgerOp) (s : SessionId) (t : Terms) (asset : Name) → IsSound b → (operation b op s t).changes ≡ true

@@ -1,5 +1,5 @@
 -- Laws of the rule: by cases and as a function, who has what there is, and what can still change.
-use Rattle.std.specs.Prelude.{◌≡◌, ◌≢◌, ◌↔◌, ℕ, ◌+◌, Bool, true, false, List, Some, None}
+use Rattle.std.specs.Prelude.{◌≡◌, ◌≢◌, ◌↔◌, ℕ, ◌+◌, ◌&&◌, Bool, true, false, List, Some, None}
 use Rattle.std.specs.List.{AllByRecursion, IsDistinct, fold, list_any, sum_by}
 use Rattle.std.specs.FinMap as map
 use Rattle.satp_base.specs.Founding.{counted, equal_names}
@@ -9,10 +9,10 @@ use Rattle.satp_base.specs.Soundness.{IsSound}
 use Rattle.satp_base.specs.declared.genesis.Hold.{Hold}
 use Rattle.satp_base.specs.declared.ledger.Answer.{Answer}
 use Rattle.satp_base.specs.declared.ledger.Entry.{Entry}
-use Rattle.satp_base.specs.declared.ledger.Entry.TheVariants.{Burnt, Minted, Assigned, Released}
+use Rattle.satp_base.specs.declared.ledger.Entry.TheVariants.{Locked, Burnt, Minted, Assigned, Released}
 use Rattle.satp_base.specs.declared.ledger.LedgerEntry.{LedgerEntry}
 use Rattle.satp_base.specs.declared.ledger.LedgerOp.{LedgerOp}
-use Rattle.satp_base.specs.declared.ledger.LedgerOp.TheVariants.{Burn, Mint, Release}
+use Rattle.satp_base.specs.declared.ledger.LedgerOp.TheVariants.{Lock, Burn, Mint, Assign, Release}
 use Rattle.satp_base.specs.declared.message.Terms.{Terms}
 use Rattle.satp_base.specs.declared.name.Name.{Name}
 use Rattle.satp_base.specs.declared.session.SessionId.{SessionId}
@@ -100,3 +100,22 @@ TotalsMove =
 
 abbrev pub ElseStays : Type 0
 ElseStays = (b : Book) (op : LedgerOp) (s : SessionId) (t : Terms) → (operation b op s t).changes ≡ false → (operation b op s t).after ≡ b
+
+-- ---- what a step does to what an owner is free to use
+
+-- what an owner loses where the operation moves an entry
+abbrev pub falls_by : LedgerOp → Terms → Name → Name → ℕ
+falls_by Lock t asset owner = counted (equal_names asset t.asset && equal_names owner t.originator) t.amount.number
+falls_by _ t asset owner = 0
+
+-- what an owner gains
+abbrev pub rises_by : LedgerOp → Entry → Terms → Name → Name → ℕ
+rises_by Assign entry t asset owner = counted (equal_names asset t.asset && equal_names owner t.beneficiary) t.amount.number
+rises_by Release Locked t asset owner = counted (equal_names asset t.asset && equal_names owner t.originator) t.amount.number
+rises_by _ entry t asset owner = 0
+
+-- Where an operation moves an entry, what each owner is free to use falls and rises by these.
+abbrev pub FreeMoves : Type 0
+FreeMoves =
+    (b : Book) (op : LedgerOp) (s : SessionId) (t : Terms) (asset owner : Name) → IsSound b → (operation b op s t).changes ≡ true
+    → free_of (operation b op s t).after asset owner + falls_by op (terms_of b.entries s t) asset owner ≡ free_of b asset owner + rises_by op (entry_of b.entries s) (terms_of b.entries s t) asset owner

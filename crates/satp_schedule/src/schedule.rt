@@ -28,10 +28,9 @@ impl Model for Schedule {
 }
 
 impl Schedule {
-    ghost use Rattle.std.specs.Prelude.{◌≡◌, ◌<◌, ◌∷◌, ◌++◌, [], true, length, slice_get, Err, MatchResult, OnOk, OnErr};
+    ghost use Rattle.std.specs.Prelude.{◌≡◌, ◌∷◌, ◌++◌, [], true, length, slice_get, MatchResult, OnOk, OnErr};
     ghost use Rattle.std.specs.Option.{option_copied};
     ghost use Rattle.satp_base.specs.Lines.{Fails, IsLines};
-    ghost use Rattle.satp_base.specs.declared.lines.LinesFault.TheVariants as lines_fault;
     ghost use Rattle.satp_schedule.specs.Lines.{AddsLine, most_bytes};
 
     /// The most lines of a schedule.
@@ -69,14 +68,10 @@ impl Schedule {
     /// At most 4,096 lines and 262,144 bytes. The empty text is a schedule of no lines.
     /// `Long` comes for more bytes, `Line` for the first line that is refused, one past the most and an open last line too.
     pub fn read(alloc: Global, text: &[u8]) -> Result<Schedule, ScheduleFault>
-        ensures lines { MatchResult result
+        ensures { MatchResult result
             (λ schedule. IsLines AddsLine most_bytes text.now [] schedule)
             (λ fault. Fails AddsLine most_bytes text.now [] fault) }
-        ensures long { most_bytes < length text.now → result ≡ Err (lines_fault.Long (length text.now)) }
     {
-        if text.len() > Schedule::BYTES {
-            return Err(ScheduleFault::Long { length: text.len() });
-        }
         let mut schedule = Schedule::new(alloc);
         read_lines(&mut schedule, text, Schedule::BYTES)?;
         Ok(schedule)

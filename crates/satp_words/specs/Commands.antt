@@ -76,6 +76,10 @@ IsListed words (Init dir name peer at key ledger) = IsCommand (codes "init") ini
 abbrev pub NotListed : List Text → Type 0
 NotListed words = (command : Command) → ¬ IsListed words command
 
+-- words list one command at most
+abbrev pub OneCommand : Type 0
+OneCommand = (words : List Text) (a b : Command) → IsListed words a → IsListed words b → a ≡ b
+
 -- the first word is this one
 abbrev pub Begins : List Text → Text → Type 0
 Begins words name = (rest : List Text) × (words ≡ name ∷ rest)

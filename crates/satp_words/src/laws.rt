@@ -1,5 +1,6 @@
-//! What the definitions say of words that are written out. It stands over definitions alone and makes no call.
+//! Theorems on words. They stand over definitions alone and make no call.
 
+ghost use Rattle.satp_words.specs.Commands.{OneCommand};
 ghost use Rattle.satp_words.specs.Examples.{ChecksWords, RefusesOptions, TakesOptions};
 
 /// A command takes an option as `--name value` and as `--name=value`, in any order, once, and one `--` at the end; and
@@ -8,4 +9,9 @@ pub fn law_examples()
     ensures takes { TakesOptions }
     ensures refuses { RefusesOptions }
     ensures check { ChecksWords }
+{}
+
+/// Words list at most one command.
+pub fn law_one_command()
+    ensures { OneCommand }
 {}

@@ -12,5 +12,5 @@ mod tests;
 mod values;
 
 pub use command::{Command, WordsFault};
-pub use laws::law_examples;
+pub use laws::{law_examples, law_one_command};
 pub use reader::read;

@@ -13,7 +13,6 @@ pub mod SafeTest
 pub mod SafeCheck
 pub mod SafeLaw
 pub mod Records
-pub mod Places
 pub mod RuleMoves
 pub mod Chained
 pub mod Growth

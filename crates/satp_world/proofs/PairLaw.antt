@@ -33,7 +33,7 @@ use Rattle.satp_world.specs.Sessions.SessionMoves.{Proposes, Accepts, Origin_mov
 use Rattle.satp_world.specs.Worlds.{Side, DealGoesOn, IsNote, LedgerFits, chain_in, is_session, records_of, view_in, with_record}
 use Rattle.satp_world.proofs.Records.{session-self, view-here, view-first, view-none, view-apart}
 use Rattle.satp_world.proofs.RuleMoves.{agrees-by, note-moves, made-moves, took-rule, made-rule, entry-apart}
-use Rattle.satp_world.proofs.Places.{maker-at}
+use Rattle.satp_base.proofs.Places.{maker-at}
 use Rattle.satp_world.proofs.Chained.{HalfChain, TiedParts, flip-tied, taken, long, next-formed}
 use Rattle.satp_world.proofs.Chained.TiedParts.{Same, Mine_ahead, Peer_ahead}
 use Rattle.satp_world.proofs.Growth.{half-more, half-noted, half-first, half-apart}

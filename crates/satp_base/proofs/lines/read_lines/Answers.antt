@@ -10,14 +10,16 @@ back : (a b : ℕ) → a + b - a ≡ b
 back a b = omega arith
 
 pub returns-in_default : goal.returns-in_default
-returns-in_default g c = stops_open g.R.LineReader.accepts c.args.text.now c.args.reader.now c.loop-at.reader c.loop-at.at c.loop-at.number c.loop-at.invariant c.loop-at-test.true (found c.args.text.now c.loop-at.at _ c.in_default.ensures.end)
+returns-in_default g c = (omega (arith, c.if-text-most.false), stops_open g.R.LineReader.accepts c.args.text.now c.args.reader.now c.loop-at.reader c.loop-at.at c.loop-at.number c.loop-at.invariant c.loop-at-test.true (found c.args.text.now c.loop-at.at _ c.in_default.ensures.end))
 
 pub returns-in-Err-Refused : goal.returns-in-Err-Refused
 returns-in-Err-Refused g c =
     let at = c.loop-at.at in
-    let rest = drop at c.args.text.now in
-    stops_refused g.R.LineReader.accepts c.args.text.now c.args.reader.now c.loop-at.reader at c.loop-at.number c.in-Some.end (take (at + c.in-Some.end - at) rest) c.loop-at.invariant c.loop-at-test.true (found c.args.text.now at _ c.in-Some.ensures.end)
-    (ap (λ k. take k rest) (back at c.in-Some.end)) (c.in-Err-Refused.ensures.refused (ap Err c.in-Err-Refused.field-0-is))
+    let rest = drop at c.args.text.now in (
+      omega (arith, c.if-text-most.false),
+      stops_refused g.R.LineReader.accepts c.args.text.now c.args.reader.now c.loop-at.reader at c.loop-at.number c.in-Some.end (take (at + c.in-Some.end - at) rest) c.loop-at.invariant c.loop-at-test.true (found c.args.text.now at _ c.in-Some.ensures.end)
+          (ap (λ k. take k rest) (back at c.in-Some.end)) (c.in-Err-Refused.ensures.refused (ap Err c.in-Err-Refused.field-0-is)),
+    )
 
 pub loop-at-preserved : goal.loop-at-preserved
 loop-at-preserved g c =

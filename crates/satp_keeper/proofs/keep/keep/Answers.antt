@@ -16,6 +16,6 @@ returns-then-not-changed-clause-stops g c = still_stops c.args.op c.args.session
 
 pub returns-clause-answers : goal.returns-clause-answers
 returns-clause-answers g c =
-    keep_failed c.args.op c.args.session c.args.terms.now (g.C.LedgerCore.book c.args.core.now) c.args.journal.now.held c.reserve.new.self.held c.append.new.self.held (g.D.Device.told c.args.disk.now) (g.D.Device.told c.append.new.disk) c.bytes-2.result.now
+    keep_failed c.args.op c.args.session c.args.terms.now (g.C.LedgerCore.book c.args.core.now) _ _ c.args.journal.now.held c.reserve.new.self.held c.append.new.self.held (g.D.Device.told c.args.disk.now) (g.D.Device.told c.append.new.disk) c.bytes-2.result.now
     c.in-Err-append.field-0 c.reserve.new.self.spare_records c.reserve.new.self.spare_bytes c.reserve.ensures.same (c.bytes-2.ensures ∙ c.in-Ok.ensures) c.requires.whole (sym c.in-Ok-apply.ensures.1 ∙ c.if-not-changed.false) c.in-Ok-reserve.ensures.records
-    (omega (arith, ap length (c.bytes-2.ensures ∙ sym c.bytes.ensures), c.in-Ok-reserve.ensures.bytes)) c.in-Err-append.ensures.memory c.in-Err-append.ensures.answers
+    (omega (arith, ap length (c.bytes-2.ensures ∙ sym c.bytes.ensures), c.in-Ok-reserve.ensures.bytes)) c.in-Err-append.ensures.memory c.in-Err-append.ensures.answers c.in-Ok-apply.ensures.0

@@ -1,0 +1,5 @@
+use Rattle.satp_words.proofs.Listings.{same_command}
+use Rattle.satp_words.proofs.laws.law_one_command.Goals as goal
+
+pub returns : goal.returns
+returns c = same_command

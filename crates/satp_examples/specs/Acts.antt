@@ -1,10 +1,10 @@
 -- What calls on a ledger may answer, and what they leave of what it tells.
-use Rattle.std.specs.Prelude.{ℕ, List, [], ◌∷◌, Option, Some, None, Result, Ok, Err}
+use Rattle.std.specs.Prelude.{◌+◌, ℕ, List, [], ◌∷◌, Option, Some, None, Result, Ok, Err}
 use Rattle.std.specs.FinMap as map
 use Rattle.satp_base.specs.Acts.{ActsOn, Applies, Asks, FoundEvents, FoundsBook, MayAdd, MayAnswer, founded}
 use Rattle.satp_base.specs.Calls.{asked, made}
 use Rattle.satp_base.specs.LedgerRule.{moved}
-use Rattle.satp_base.specs.Money.{Book}
+use Rattle.satp_base.specs.Money.{Book, held, held_of_all}
 use Rattle.satp_base.specs.Soundness.{IsSound}
 use Rattle.satp_base.specs.declared.area.Event.{Event}
 use Rattle.satp_base.specs.declared.area.Event.TheVariants.{Acted, Founded}
@@ -16,6 +16,8 @@ use Rattle.satp_base.specs.declared.ledger.CoreFault.TheVariants as core
 use Rattle.satp_base.specs.declared.ledger.Entry.TheVariants.{Absent, Locked}
 use Rattle.satp_base.specs.declared.ledger.LedgerCall.TheVariants.{Raise}
 use Rattle.satp_base.specs.declared.ledger.LedgerOp.TheVariants.{Lock, Burn}
+use Rattle.satp_base.specs.declared.name.Name.{Name}
+use Rattle.satp_money.specs.Amounts.{Agrees}
 use Rattle.satp_examples.specs.Calls.{two_calls}
 use Rattle.satp_examples.specs.Ledgers.{book_with, new_book, past_what_is_free, with_gold}
 use Rattle.satp_examples.specs.Samples.{alpha_1, quarter}
@@ -83,3 +85,16 @@ overdrawn = record { genesis = with_gold; entries = map.insert map.empty alpha_1
 pub record SoundBooks : Type 0 where
   pub new : IsSound new_book
   pub not_overdrawn : ¬ IsSound overdrawn
+
+-- what is kept as free, beside the book of a new ledger
+abbrev pub each_free : Name → Name → ℕ
+each_free asset owner = held with_gold asset owner
+
+abbrev pub all_free : Name → ℕ
+all_free asset = held_of_all with_gold asset
+
+pub record AmountsThatAgree : Type 0 where
+  pub as_held : Agrees new_book each_free all_free
+  pub not_nothing : ¬ Agrees new_book (λ asset owner. 0) all_free
+  pub not_another_sum : ¬ Agrees new_book each_free (λ asset. all_free asset + 1)
+  pub not_behind_a_lock : ¬ Agrees (book_with Locked) each_free all_free

@@ -1,8 +1,8 @@
 -- A journal that holds `abc`: what it answers where it is opened and where `d` is appended.
-use Rattle.std.specs.Prelude.{ℕ, List, [], ◌∷◌, Option, Some, Result, Ok, Err, true, false}
+use Rattle.std.specs.Prelude.{ℕ, List, [], ◌∷◌, ◌++◌, Option, Some, Result, Ok, Err, true, false}
 use Rattle.std.specs.FinMap as map
 use Rattle.satp_base.specs.Calls.{Told, made}
-use Rattle.satp_base.specs.Laws.{RestsAt}
+use Rattle.satp_base.specs.Laws.{IsInAppend, RestsAt}
 use Rattle.satp_base.specs.Segments.{append_events}
 use Rattle.satp_base.specs.declared.area.Area.TheVariants.{JournalA}
 use Rattle.satp_base.specs.declared.area.Event.{Event}
@@ -103,3 +103,18 @@ pub record AreasAtRest : Type 0 where
   pub rests : RestsAt at_rest.trail JournalA (abc ∷ [])
   pub another_list : ¬ RestsAt at_rest.trail JournalA []
   pub a_gate_unsynced : ¬ RestsAt (record at_rest.trail { events = Wrote JournalA 6 (0 ∷ []) ∷ [] }) JournalA (abc ∷ [])
+
+-- an image that a stop within an append of `d` may leave
+abbrev pub Within : List ℕ → Type 0
+Within image = IsInAppend (abc ∷ []) d image
+
+abbrev pub gate_in_the_write : List ℕ → List ℕ
+gate_in_the_write q = abc_then (7 ∷ 0 ∷ 1 ∷ q ++ 0 ∷ [])
+
+pub record ImagesOfAnAppend : Type 0 where
+  pub before : Within closed
+  pub in_the_write_of_the_gate : Within (gate_in_the_write d)
+  pub behind : Within (abc_then (1 ∷ 0 ∷ 1 ∷ 100 ∷ 0 ∷ []))
+  pub not_damaged : ¬ Within damaged
+  pub not_before_another_payload : ¬ Within (gate_in_the_write (101 ∷ []))
+  pub not_without_the_list : ¬ Within (0 ∷ 0 ∷ [])

@@ -6,7 +6,7 @@ use Rattle.satp_base.specs.Acts.{operation_events}
 use Rattle.satp_base.specs.Founding.{counted, equal_names}
 use Rattle.satp_base.specs.Keys.{session_cmp}
 use Rattle.satp_base.specs.LedgerRule.{IsOutOfOrder, Operation, entry_of}
-use Rattle.satp_base.specs.Money.{Book, cap_of, given, taken, taken_of_all}
+use Rattle.satp_base.specs.Money.{Book, cap_of, given, given_to_all, pledged, taken, taken_of_all}
 use Rattle.satp_base.specs.declared.area.Event.{Event}
 use Rattle.satp_base.specs.declared.genesis.Asset.{Asset}
 use Rattle.satp_base.specs.declared.ledger.Entry.TheVariants.{Absent, Locked}
@@ -18,7 +18,7 @@ use Rattle.satp_examples.specs.Acts.{overdrawn}
 use Rattle.satp_examples.specs.Genesis.{gold_1000}
 use Rattle.satp_examples.specs.Ledgers.{book_with, new_book, past_what_is_free, with_gold}
 use Rattle.satp_examples.specs.Samples.{alpha_1, ann, gold, quarter}
-use Rattle.satp_examples.proofs.Books.{absent, entry_is, lock_is, locked_is, no_entries, total_among}
+use Rattle.satp_examples.proofs.Books.{absent, entry_is, lock_is, locked_is, no_entries, one_entry, total_among}
 use Rattle.satp_examples.proofs.acts.law_acts.Goals as goal
 
 abbrev events_of : Operation → List Event
@@ -93,5 +93,34 @@ returns-clause-sound c = record {
       let took : sum_of (taken gold ann) (map.entries overdrawn.entries) ≡ 501 = ap (sum_of (taken gold ann)) one_lock in
       let gave : sum_of (given gold ann) (map.entries overdrawn.entries) ≡ 0 = ap (sum_of (given gold ann)) one_lock in
       let bad : sum_of (taken gold ann) (map.entries overdrawn.entries) ≤ 500 + sum_of (given gold ann) (map.entries overdrawn.entries) = s.covered gold ann in
+      absurd (omega (arith, took, gave, bad));
+}
+
+-- ---- amounts that agree
+
+-- whether the asset is gold or not
+covered : (is : Bool) → (0 + counted is 500) + 0 ≤ unwrap_or (option_map (λ (x : Asset). x.cap.number) (cond is (Some gold_1000) None)) 0
+covered true = lit≤ tt
+covered false = lit≤ tt
+
+pub returns-clause-agree : goal.returns-clause-agree
+returns-clause-agree c = record {
+  as_held = record {
+    each = λ asset owner. let took = no_sum (taken asset owner) in let gave = no_sum (given asset owner) in omega (arith, took, gave);
+    all = λ asset. let took = no_sum (taken_of_all asset) in let gave = no_sum (given_to_all asset) in omega (arith, took, gave);
+    capped = λ asset. let none = no_sum (pledged asset) in let fits = covered (equal_names asset gold) in omega (arith, none, fits);
+  };
+  not_nothing = λ a.
+      let took = no_sum (taken gold ann) in let gave = no_sum (given gold ann) in
+      let bad : 0 + sum_of (taken gold ann) (map.entries new_book.entries) ≡ 500 + sum_of (given gold ann) (map.entries new_book.entries) = a.each gold ann in
+      absurd (omega (arith, took, gave, bad));
+  not_another_sum = λ a.
+      let took = no_sum (taken_of_all gold) in let gave = no_sum (given_to_all gold) in
+      let bad : 501 + sum_of (taken_of_all gold) (map.entries new_book.entries) ≡ 500 + sum_of (given_to_all gold) (map.entries new_book.entries) = a.all gold in
+      absurd (omega (arith, took, gave, bad));
+  not_behind_a_lock = λ a.
+      let took : sum_of (taken gold ann) (map.entries (book_with Locked).entries) ≡ 250 = ap (sum_of (taken gold ann)) (one_entry Locked) in
+      let gave : sum_of (given gold ann) (map.entries (book_with Locked).entries) ≡ 0 = ap (sum_of (given gold ann)) (one_entry Locked) in
+      let bad : 500 + sum_of (taken gold ann) (map.entries (book_with Locked).entries) ≡ 500 + sum_of (given gold ann) (map.entries (book_with Locked).entries) = a.each gold ann in
       absurd (omega (arith, took, gave, bad));
 }

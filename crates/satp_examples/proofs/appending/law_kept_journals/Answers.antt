@@ -1,21 +1,23 @@
-use Rattle.std.proofs.Common.{◌≡◌, ◌<◌, ◌+◌, ℕ, zero, suc, List, [], ◌∷◌, Option, Some, option_map, Ok, Err, ◌⊎◌, length, refl, sym, ap, subst, inl, inr, arith, lit<, rules}
+use Rattle.std.specs.List.{flat_map}
+use Rattle.std.proofs.Common.{◌≡◌, ◌≢◌, ◌++◌, ◌<◌, ◌+◌, ℕ, zero, suc, List, [], ◌∷◌, Option, Some, option_map, Ok, Err, ◌⊎◌, length, refl, sym, ap, subst, inl, inr, arith, lit<, rules}
 use Rattle.std.specs.Option.{option_map_or}
 use Rattle.std.specs.Prelude.{slice_index}
 use Rattle.satp_base.specs.Calls.{FailsAmong, Told, made}
-use Rattle.satp_base.specs.Format.{Damage, IsAtRest, Stands}
+use Rattle.satp_base.specs.Format.{Damage, EndsAt, IsAtRest, Stands, records}
 use Rattle.satp_base.specs.Segments.{open_events}
 use Rattle.satp_base.specs.Trail.{IsImage, seen}
 use Rattle.satp_base.specs.declared.area.Area.TheVariants.{JournalA}
 use Rattle.satp_base.specs.declared.area.Event.TheVariants.{Wrote}
-use Rattle.satp_base.proofs.Readings.{never_both, one_damage, one_list}
+use Rattle.satp_base.specs.Laws.{IsInAppend}
+use Rattle.satp_base.proofs.Readings.{one_end, never_both, one_damage, one_list}
 use Rattle.satp_base.proofs.Standings.{only_settled}
 use Rattle.satp_journal.specs.Listing.{IsUnread}
 use Rattle.satp_journal.specs.Opening.{mend_calls}
 use Rattle.satp_journal.specs.State.{Held}
 use Rattle.satp_journal.specs.declared.fault.JournalFault.TheVariants.{Damaged}
 use Rattle.satp_journal.specs.declared.list.Unread.TheVariants as unread
-use Rattle.satp_examples.specs.Appending.{Opens, append, opened, at_rest, closed, damaged, of_seven, synced, uncalled}
-use Rattle.satp_examples.specs.Journals.{abc, abc_then}
+use Rattle.satp_examples.specs.Appending.{gate_in_the_write, Opens, append, opened, at_rest, closed, damaged, of_seven, synced, uncalled}
+use Rattle.satp_examples.specs.Journals.{abc, abc_then, d}
 use Rattle.satp_examples.proofs.Images.{breaks, is_damaged, is_whole}
 use Rattle.satp_examples.proofs.appending.law_kept_journals.Goals as goal
 
@@ -126,4 +128,63 @@ returns-clause-rests c = record {
   rests = λ image is. subst (IsAtRest (abc ∷ [])) (sym (only_settled closed image is)) rests_here;
   another_list = λ h. let bytes = (h closed here).1.bytes in absurd cc;
   a_gate_unsynced = λ h. unlike 7 0 (inr (lit< tt)) (ap (λ xs. slice_index xs 6) (h of_seven (search rules)).1.bytes);
+}
+
+-- ---- within an append
+
+both : Stands (abc_then (1 ∷ 0 ∷ 1 ∷ 100 ∷ 0 ∷ [])) (abc ∷ d ∷ [])
+both = search rules
+
+at_rest_ends : EndsAt (abc ∷ []) 0 [] closed
+at_rest_ends = record { valid = search rules; bytes = refl }
+
+in_write : (q : List ℕ) → EndsAt (abc ∷ []) 7 (0 ∷ 1 ∷ q ++ 0 ∷ []) (gate_in_the_write q)
+in_write q = record { valid = search rules; bytes = refl }
+
+seven : ◌≢◌ {A = ℕ} 7 1
+seven = search rules
+
+-- the gate is 0, so that nothing is to be shown of another
+no_other_gate : (list : List (List ℕ)) (gate : ℕ) (behind : List ℕ) → gate ≢ 0 → gate ≢ 1 → EndsAt list gate behind closed → Stands (records list ++ 1 ∷ behind) (abc ∷ d ∷ [])
+no_other_gate list gate behind other closes ends =
+    let same = one_end (abc ∷ []) list 0 gate [] behind closed at_rest_ends ends (inl (search rules)) (inl closes) in absurd (other (sym same.gate))
+
+opened_write : (list : List (List ℕ)) (gate : ℕ) (behind : List ℕ) → gate ≢ 0 → gate ≢ 1 → EndsAt list gate behind (gate_in_the_write d) → Stands (records list ++ 1 ∷ behind) (abc ∷ d ∷ [])
+opened_write list gate behind other closes ends =
+    let same = one_end (abc ∷ []) list 7 gate (0 ∷ 1 ∷ 100 ∷ 0 ∷ []) behind (gate_in_the_write d) (in_write d) ends (inl seven) (inl closes) in
+    subst (λ p. Stands (records p ++ 1 ∷ behind) (abc ∷ d ∷ [])) same.payloads (subst (λ x. Stands (records (abc ∷ []) ++ 1 ∷ x) (abc ∷ d ∷ [])) same.behind both)
+
+both_end : EndsAt (abc ∷ d ∷ []) 0 [] (abc_then (1 ∷ 0 ∷ 1 ∷ 100 ∷ 0 ∷ []))
+both_end = record { valid = search rules; bytes = refl }
+
+no_gate_behind : (list : List (List ℕ)) (gate : ℕ) (behind : List ℕ) → gate ≢ 0 → gate ≢ 1 → EndsAt list gate behind (abc_then (1 ∷ 0 ∷ 1 ∷ 100 ∷ 0 ∷ [])) → Stands (records list ++ 1 ∷ behind) (abc ∷ d ∷ [])
+no_gate_behind list gate behind other closes ends =
+    let same = one_end (abc ∷ d ∷ []) list 0 gate [] behind _ both_end ends (inl (search rules)) (inl closes) in absurd (other (sym same.gate))
+
+no_append : IsInAppend (abc ∷ []) d damaged → ⊥
+no_append w = elim w.list [
+  | inl s ↦ never_both damaged _ 6 s is_damaged
+  | inr s ↦ never_both damaged _ 6 s is_damaged
+]
+
+other_payload : IsInAppend (abc ∷ []) d (gate_in_the_write (101 ∷ [])) → ⊥
+other_payload w =
+    let longer = w.opened (abc ∷ []) 7 _ (search rules) seven (in_write (101 ∷ [])) in
+    let same = one_list _ (abc ∷ d ∷ []) (abc ∷ (101 ∷ []) ∷ []) longer (search rules) in
+    unlike 100 101 (inl (lit< tt)) (ap (λ qs. slice_index (flat_map (λ q. q) qs) 3) same)
+
+no_list : IsInAppend (abc ∷ []) d (0 ∷ 0 ∷ []) → ⊥
+no_list w = elim w.list [
+  | inl s ↦ let same = one_list (0 ∷ 0 ∷ []) _ [] s (search rules) in absurd cc
+  | inr s ↦ let same = one_list (0 ∷ 0 ∷ []) _ [] s (search rules) in absurd cc
+]
+
+pub returns-clause-within : goal.returns-clause-within
+returns-clause-within c = record {
+  before = record { list = inl is_whole; mends = inr (inl (abc ∷ [], ([], at_rest_ends))); opened = no_other_gate };
+  in_the_write_of_the_gate = record { list = inl (search rules); mends = inr (inr (abc ∷ d ∷ [], (abc ∷ [], 7, _, seven, in_write d, both))); opened = opened_write };
+  behind = record { list = inr both; mends = inr (inl (abc ∷ d ∷ [], ([], both_end))); opened = no_gate_behind };
+  not_damaged = no_append;
+  not_before_another_payload = other_payload;
+  not_without_the_list = no_list;
 }

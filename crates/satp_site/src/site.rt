@@ -45,30 +45,54 @@ impl<D: Directory> Device for RealSite<D> {
     ghost keeps_model = { λ s t is. untold_keeps t is };
 }
 
+/// A call on the disk fails only where the disk itself fails.
 impl<D: Directory> Disk for RealSite<D> {
-    fn enter(&mut self, dir: &[u8]) -> Result<(), DiskFault> {
+    ghost use Rattle.std.specs.Prelude.{◌≤◌, ◌+◌, ◌-◌, ◌^◌, length, IfOk, OnOk};
+    ghost use Rattle.satp_base.specs.Streams.{HasCause};
+
+    fn enter(&mut self, dir: &[u8]) -> Result<(), DiskFault>
+        ensures cause { HasCause self.old.faults self.new.faults result }
+        ensures disk { HasCause (D.faults self.old.disk) (D.faults self.new.disk) result }
+    {
         // The ledger's disk stands under the lock that is given back here.
         self.ledger = None;
         counted(&mut self.faults, self.disk.enter(dir))
     }
 
-    fn length(&mut self, area: Area) -> Result<u64, DiskFault> {
+    fn length(&mut self, area: Area) -> Result<u64, DiskFault>
+        ensures cause { HasCause self.old.faults self.new.faults result }
+        ensures disk { HasCause (D.faults self.old.disk) (D.faults self.new.disk) result }
+    {
         counted(&mut self.faults, self.disk.length(area))
     }
 
-    fn read(&mut self, area: Area, at: u64, into: &mut [u8]) -> Result<usize, DiskFault> {
+    fn read(&mut self, area: Area, at: u64, into: &mut [u8]) -> Result<usize, DiskFault>
+        ensures bound { IfOk result (λ n. n ≤ length into.new) }
+        ensures cause { HasCause self.old.faults self.new.faults result }
+        ensures disk { HasCause (D.faults self.old.disk) (D.faults self.new.disk) result }
+    {
         counted(&mut self.faults, self.disk.read(area, at, into))
     }
 
-    fn write(&mut self, area: Area, at: u64, bytes: &[u8]) -> Result<(), DiskFault> {
+    fn write(&mut self, area: Area, at: u64, bytes: &[u8]) -> Result<(), DiskFault>
+        ensures fits { OnOk result (at + length bytes.now ≤ 2 ^ 64 - 1) }
+        ensures cause { HasCause self.old.faults self.new.faults result }
+        ensures disk { HasCause (D.faults self.old.disk) (D.faults self.new.disk) result }
+    {
         counted(&mut self.faults, self.disk.write(area, at, bytes))
     }
 
-    fn cut(&mut self, area: Area, size: u64) -> Result<(), DiskFault> {
+    fn cut(&mut self, area: Area, size: u64) -> Result<(), DiskFault>
+        ensures cause { HasCause self.old.faults self.new.faults result }
+        ensures disk { HasCause (D.faults self.old.disk) (D.faults self.new.disk) result }
+    {
         counted(&mut self.faults, self.disk.cut(area, size))
     }
 
-    fn sync(&mut self, area: Area) -> Result<(), DiskFault> {
+    fn sync(&mut self, area: Area) -> Result<(), DiskFault>
+        ensures cause { HasCause self.old.faults self.new.faults result }
+        ensures disk { HasCause (D.faults self.old.disk) (D.faults self.new.disk) result }
+    {
         counted(&mut self.faults, self.disk.sync(area))
     }
 }

@@ -1,6 +1,6 @@
 -- A ledger that tells nothing has no events to show.
 use Rattle.std.proofs.Common.{inl, inr, refl}
-use Rattle.std.specs.Prelude.{List, [], ◌∷◌, ◌≡◌, Result, Ok, Err, None}
+use Rattle.std.specs.Prelude.{List, [], Result, Ok, Err, None}
 use Rattle.satp_base.specs.Acts.{Asks, MayAdd}
 use Rattle.satp_base.specs.declared.area.Event.{Event}
 use Rattle.satp_base.specs.declared.ledger.ActFault.{ActFault}

@@ -89,3 +89,5 @@ pub record LinesOfAText : Type 0 where
   pub not_at_another_line : ¬ FailsBy 4 (97 ∷ 10 ∷ 10 ∷ []) (Line 1)
   pub not_long_by_its_most : (n : ℕ) → ¬ FailsBy 4 a_and_b (Long n)
   pub not_by_no_line : (number : ℕ) → ¬ FailsBy 4 [] (Line number)
+  -- no line of a text that is too long is looked at
+  pub not_a_line_past_the_most : (number : ℕ) → ¬ FailsBy 3 (97 ∷ 10 ∷ 10 ∷ 10 ∷ []) (Line number)

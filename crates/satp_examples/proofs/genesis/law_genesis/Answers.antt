@@ -88,11 +88,12 @@ returns-clause-lines c = record {
   none = record { lines = []; whole = refl; each = refl; runs = refl; short = lit≤ tt };
   two = record { lines = a ∷ b ∷ []; whole = refl; each = refl; runs = (a ∷ [], takes_a [], (a ∷ b ∷ [], takes_b (a ∷ []), refl)); short = lit≤ tt };
   one_byte_too_long = (refl, lit< tt);
-  an_empty_line = record { lines = a ∷ []; rest = 10 ∷ []; reached = a ∷ []; whole = refl; each = refl; runs = (a ∷ [], takes_a [], refl); counted = refl; more = search rules; refused = empty_line };
-  an_open_line = record { lines = a ∷ []; rest = b; reached = a ∷ []; whole = refl; each = refl; runs = (a ∷ [], takes_a [], refl); counted = refl; more = search rules; refused = open_line };
+  an_empty_line = (lit≤ tt, record { lines = a ∷ []; rest = 10 ∷ []; reached = a ∷ []; whole = refl; each = refl; runs = (a ∷ [], takes_a [], refl); counted = refl; more = search rules; refused = empty_line });
+  an_open_line = (lit≤ tt, record { lines = a ∷ []; rest = b; reached = a ∷ []; whole = refl; each = refl; runs = (a ∷ [], takes_a [], refl); counted = refl; more = search rules; refused = open_line });
   not_past_the_most = λ lines h. let bad : 4 ≤ 3 = h.short in absurd (omega (arith, bad));
   not_without_the_last_feed = λ lines h. no_last_feed h.lines h.whole;
-  not_at_another_line = λ s. first_taken s.lines s.rest s.reached s.whole s.runs s.counted s.refused;
+  not_at_another_line = λ h. let s = h.1 in first_taken s.lines s.rest s.reached s.whole s.runs s.counted s.refused;
   not_long_by_its_most = λ n h. let bad : 4 < 4 = h.1 in absurd (omega (arith, bad));
-  not_by_no_line = λ number s. nothing_left s.lines s.rest s.whole s.more;
+  not_by_no_line = λ number h. let s = h.1 in nothing_left s.lines s.rest s.whole s.more;
+  not_a_line_past_the_most = λ number h. let bad : 4 ≤ 3 = h.0 in absurd (omega (arith, bad));
 }

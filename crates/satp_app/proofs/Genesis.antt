@@ -2,7 +2,7 @@
 use Rattle.std.proofs.Common.{◌≡◌, ℕ, zero, suc, ◌+◌, ◌<◌, ◌≤◌, List, [], ◌∷◌, length, take, length-take, Option, Some, None, refl, ap, subst, sym, ◌∙◌, arith}
 use Rattle.std.specs.Prelude.{IfSome}
 use Rattle.satp_base.specs.GenesisText.{AcceptsLine, most_bytes, nothing}
-use Rattle.satp_base.specs.Lines.{Fails, StopsAt}
+use Rattle.satp_base.specs.Lines.{Fails}
 use Rattle.satp_base.specs.declared.lines.LinesFault.{LinesFault}
 use Rattle.satp_base.specs.declared.lines.LinesFault.TheVariants.{Line}
 use Rattle.satp_app.specs.Init.{IsRefusedAt, Reads}
@@ -38,5 +38,5 @@ module _ (b a : SourceState) (bytes : List ℕ) (read : ReadTo (most_bytes + 1) 
           let more : most_bytes < length (take (most_bytes + 1) told) = subst (λ (x : List ℕ). most_bytes < length x) h long in
           record { read = read; bytes = told; is_input = subst (λ o. IfSome o (λ t. told ≡ t)) (sym e) refl; holds = omega (arith, length-take (most_bytes + 1) told, more) }
 
-pub refused_at : (number : ℕ) (f : LinesFault) (shown bytes : List ℕ) → shown ≡ bytes → f ≡ Line number → length bytes ≤ most_bytes → Fails AcceptsLine most_bytes shown nothing f → IsRefusedAt number bytes
-refused_at number f shown bytes same is short fails = (short, subst (λ (x : List ℕ). StopsAt AcceptsLine x nothing number) same (subst (λ y. Fails AcceptsLine most_bytes shown nothing y) is fails).1)
+pub refused_at : (number : ℕ) (f : LinesFault) (shown bytes : List ℕ) → shown ≡ bytes → f ≡ Line number → Fails AcceptsLine most_bytes shown nothing f → IsRefusedAt number bytes
+refused_at number f shown bytes same is fails = subst (λ (x : List ℕ). Fails AcceptsLine most_bytes x nothing (Line number)) same (subst (λ y. Fails AcceptsLine most_bytes shown nothing y) is fails)

@@ -4,13 +4,14 @@ use Rattle.satp_base.specs.Calls.{MayMiss, Told, entered}
 use Rattle.satp_base.specs.Founding.{Founding}
 use Rattle.satp_base.specs.Format.{Stands}
 use Rattle.satp_base.specs.GenesisText.{AcceptsLine, most_bytes, nothing}
-use Rattle.satp_base.specs.Lines.{IsLines, StopsAt}
+use Rattle.satp_base.specs.Lines.{Fails, IsLines}
 use Rattle.satp_base.specs.Streams.{Rose}
 use Rattle.satp_base.specs.Trail.{seen}
 use Rattle.satp_base.specs.Values.{name_text}
 use Rattle.satp_base.specs.declared.address.Address.{Address}
 use Rattle.satp_base.specs.declared.area.Area.TheVariants.{JournalA}
 use Rattle.satp_base.specs.declared.ledger.LedgerKind.{LedgerKind}
+use Rattle.satp_base.specs.declared.lines.LinesFault.TheVariants as lines
 use Rattle.satp_base.specs.declared.name.Name.{Name}
 use Rattle.satp_journal.specs.Opening.{OpenAnswers}
 use Rattle.satp_journal.specs.State.{JournalState}
@@ -89,9 +90,9 @@ pub record Reads (b a : SourceState) (P : List ℕ → Type 0) : Type 0 where
 abbrev pub IsGenesisText : Founding → List ℕ → Type 0
 IsGenesisText genesis bytes = IsLines AcceptsLine most_bytes bytes nothing genesis
 
--- the text isn't too long, and this is its first line that is refused
+-- this is the first line of the text that is refused
 abbrev pub IsRefusedAt : ℕ → List ℕ → Type 0
-IsRefusedAt number bytes = (length bytes ≤ most_bytes) × StopsAt AcceptsLine bytes nothing number
+IsRefusedAt number bytes = Fails AcceptsLine most_bytes bytes nothing (lines.Line number)
 
 abbrev pub NotRead : SourceState → SourceState → Outcome → Type 0
 NotRead b a InputLong = Reads b a (λ bytes. most_bytes < length bytes)

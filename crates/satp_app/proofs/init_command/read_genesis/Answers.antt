@@ -17,4 +17,4 @@ pub returns-in-Err-Line : goal.returns-in-Err-Line
 returns-in-Err-Line g c =
     let short = subst (λ (x : List ℕ). length x ≤ 65536) c.bytes.ensures c.if-bytes-gt-BYTES.false in
     reads_short (IsRefusedAt c.in-Err-Line.number) (source g.I.Source.faults g.I.Source.left c.args.input.now) (source g.I.Source.faults g.I.Source.left c.read_to.new.input) c.in-Ok.held c.in-Ok.ensures.0 c.in-Ok.ensures.1 short
-    (refused_at c.in-Err-Line.number c.in-Err-Line.field-0 c.bytes-2.result.now c.in-Ok.held c.bytes-2.ensures c.in-Err-Line.field-0-is short c.in-Err-Line.ensures)
+    (refused_at c.in-Err-Line.number c.in-Err-Line.field-0 c.bytes-2.result.now c.in-Ok.held c.bytes-2.ensures c.in-Err-Line.field-0-is c.in-Err-Line.ensures)

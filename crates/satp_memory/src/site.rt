@@ -109,6 +109,7 @@ impl<C: LedgerCore> MemSite<C> {
         requires { self.old.core ≡ None }
         ensures ok { OnOk result ((told_of self.new.disk ≡ adding (Founded ∷ []) (told_of self.old.disk)) × (option_map C.book self.new.core ≡ Some (founded genesis.now))) }
         ensures err { OnErr result ((told_of self.new.disk ≡ told_of self.old.disk) × (self.new.core ≡ None)) }
+        ensures failed { OnErr result (self.new.disk.events.items ≡ self.old.disk.events.items) }
         ensures stop { self.new.disk.stop ≡ self.old.disk.stop }
         ensures calls { self.new.disk.calls ≡ self.old.disk.calls }
     {
@@ -300,7 +301,7 @@ impl<C: LedgerCore> Ledger for MemSite<C> {
 }
 
 impl<C: LedgerCore> Site for MemSite<C> {
-    ghost use Rattle.std.specs.Prelude.{◌≡◌, List, [], Some, is_some};
+    ghost use Rattle.std.specs.Prelude.{◌≡◌, List, [], Some, is_some, OnErr};
     ghost use Rattle.satp_base.specs.Streams.{HasCause};
     ghost use Rattle.satp_base.specs.Acts.{Asks, FoundEvents, FoundsBook};
     ghost use Rattle.satp_base.specs.declared.area.Event.{Event};
@@ -310,10 +311,12 @@ impl<C: LedgerCore> Site for MemSite<C> {
     ghost use Rattle.satp_memory.specs.Steps.{is_stopped, told_of};
     ghost use Rattle.satp_memory.specs.OneLedger.{one_ledger_of};
 
+    /// One that fails leaves no ledger, and adds no event.
     fn found(&mut self, kind: LedgerKind, genesis: &Genesis) -> Result<(), SiteFault>
         ensures told { (events : List Event) × FoundEvents result events
             × Asks (Found kind genesis.now) events result (Some (told_of self.old.disk)) (Some (told_of self.new.disk)) }
         ensures ledger { FoundsBook genesis.now result (Some (told_of self.old.disk)) (option_map C.book self.new.core) }
+        ensures failed { OnErr result (self.new.disk.events.items ≡ self.old.disk.events.items) }
         ensures cause { HasCause self.old.disk.calls.faults self.new.disk.calls.faults result }
         ensures ended { LedgerEnds (is_refused (is_stopped self.old.disk) self.old.disk.calls) (same_kind kind C.KIND) self.old.disk.calls self.new.disk.calls result }
         ensures stop { self.new.disk.stop ≡ self.old.disk.stop }

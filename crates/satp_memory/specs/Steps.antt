@@ -85,6 +85,13 @@ EndsOrWants old new (Err fault) =
     ((is_refused (is_stopped old) old.calls ≡ true) × (new.calls ≡ failed old.calls))
     ⊎ ((is_stopped old ≡ false) × (new.calls ≡ wanting (begun false old.calls)))
 
+-- One that notes a directory always looks for memory. It is noted, also by a call that fails, unless none was found, which is counted.
+abbrev pub EntersOrWants : {T E : Type 0} → List ℕ → MemDisk → MemDisk → Result T E → Type 0
+EntersOrWants dir old new (Ok done) = (is_refused (is_stopped old) old.calls ≡ false) × (new.calls ≡ succeeded old.calls)
+EntersOrWants dir old new (Err fault) =
+    ((is_refused (is_stopped old) old.calls ≡ true) × (new.calls ≡ failed old.calls) × (new.dirs.items ≡ old.dirs.items ++ dir ∷ []))
+    ⊎ (new.calls ≡ wanting (begun (is_stopped old) old.calls))
+
 -- the events that a call adds: one where it succeeds, none behind a stop or where no memory was found, and else those of a named one
 abbrev pub Adds : {T E : Type 0} → Event → List Event → MemDisk → MemDisk → Result T E → Type 0
 Adds event named old new (Ok done) = new.events.items ≡ old.events.items ++ event ∷ []

@@ -383,13 +383,13 @@ impl Disk for MemDisk {
     ghost use Rattle.satp_base.specs.Trail.{seen};
     ghost use Rattle.satp_base.specs.Calls.{Fails, MayMiss, Reads, entered, made};
     ghost use Rattle.satp_base.specs.declared.area.Event.TheVariants.{Wrote, Cut, Synced};
-    ghost use Rattle.satp_memory.specs.Steps.{Adds, Ends, EndsOrWants, told_of};
+    ghost use Rattle.satp_memory.specs.Steps.{Adds, Ends, EndsOrWants, EntersOrWants, told_of};
 
     fn enter(&mut self, dir: &[u8]) -> Result<(), DiskFault>
         ensures ok { OnOk result (told_of self.new ≡ entered dir.now (told_of self.old)) }
         ensures err { OnErr result (MayMiss (entered dir.now) (Some (told_of self.old)) (Some (told_of self.new))) }
         ensures cause { HasCause self.old.calls.faults self.new.calls.faults result }
-        ensures ended { EndsOrWants self.old self.new result }
+        ensures ended { EntersOrWants dir.now self.old self.new result }
         ensures past { self.new.past.items ≡ self.old.past.items }
         ensures events { self.new.events.items ≡ self.old.events.items }
         ensures stop { self.new.stop ≡ self.old.stop }
@@ -404,9 +404,7 @@ impl Disk for MemDisk {
                 Ok(())
             }
             Err(_) => {
-                if !refused {
-                    self.calls.want();
-                }
+                self.calls.want();
                 Err(DiskFault)
             }
         }

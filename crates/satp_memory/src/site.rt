@@ -156,13 +156,13 @@ impl<C: LedgerCore> Disk for MemSite<C> {
     ghost use Rattle.satp_base.specs.Trail.{seen};
     ghost use Rattle.satp_base.specs.Calls.{Fails, MayMiss, Reads, entered, made};
     ghost use Rattle.satp_base.specs.declared.area.Event.TheVariants.{Wrote, Cut, Synced};
-    ghost use Rattle.satp_memory.specs.Steps.{Adds, Ends, EndsOrWants, told_of};
+    ghost use Rattle.satp_memory.specs.Steps.{Adds, Ends, EndsOrWants, EntersOrWants, told_of};
 
     fn enter(&mut self, dir: &[u8]) -> Result<(), DiskFault>
         ensures ok { OnOk result (told_of self.new.disk ≡ entered dir.now (told_of self.old.disk)) }
         ensures err { OnErr result (MayMiss (entered dir.now) (Some (told_of self.old.disk)) (Some (told_of self.new.disk))) }
         ensures cause { HasCause self.old.disk.calls.faults self.new.disk.calls.faults result }
-        ensures ended { EndsOrWants self.old.disk self.new.disk result }
+        ensures ended { EntersOrWants dir.now self.old.disk self.new.disk result }
         ensures stop { self.new.disk.stop ≡ self.old.disk.stop }
         ensures core { self.new.core ≡ self.old.core }
     {

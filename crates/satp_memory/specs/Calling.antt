@@ -45,10 +45,6 @@ stepped c = begun false c
 abbrev pub wanting : Calling → Calling
 wanting c = record c { faults = up c.faults; wants = up c.wants }
 
--- after a call that fails in any case, for want of memory where it isn't to fail anyway
-abbrev pub missed : Bool → Calling → Calling
-missed refused c = if refused then failed c else wanting (succeeded c)
-
 -- a call that is counted already fails for another reason
 abbrev pub faulting : Calling → Calling
 faulting c = record c { faults = up c.faults }

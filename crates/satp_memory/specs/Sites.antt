@@ -1,5 +1,5 @@
 -- How a call on a site in memory ends, and how its ledger agrees with the trail.
-use Rattle.std.specs.Prelude.{◌≡◌, ◌⊎◌, Bool, true, false, List, IfSome, Option, Some, None, Result, Ok, Err}
+use Rattle.std.specs.Prelude.{◌≡◌, ◌⊎◌, Bool, true, false, List, IfSome, if◌then◌else◌, Option, Some, None, Result, Ok, Err}
 use Rattle.satp_base.specs.Ledgers.{Entries}
 use Rattle.satp_base.specs.Money.{Book}
 use Rattle.satp_base.specs.declared.ledger.ActFault.{ActFault}
@@ -41,14 +41,14 @@ abbrev pub LedgerEnds : {T E : Type 0} → (refused fits : Bool) → Calling →
 LedgerEnds refused fits old new (Ok done) = (refused ≡ false) × (fits ≡ true) × (new ≡ succeeded old)
 LedgerEnds refused fits old new (Err fault) =
     (((refused ≡ true) ⊎ (fits ≡ false)) × (new ≡ failed old))
-    ⊎ ((refused ≡ false) × (new ≡ wanting (succeeded old)))
+    ⊎ (new ≡ wanting (if refused then failed old else succeeded old))
 
 -- An operation out of order is a fault of its own.
 abbrev pub ActEnds : {T : Type 0} → (refused fits : Bool) → Calling → Calling → Result T ActFault → Type 0
 ActEnds refused fits old new (Ok answer) = (refused ≡ false) × (fits ≡ true) × (new ≡ succeeded old)
 ActEnds refused fits old new (Err Failed) =
     (((refused ≡ true) ⊎ (fits ≡ false)) × (new ≡ failed old))
-    ⊎ ((refused ≡ false) × (new ≡ wanting (succeeded old)))
+    ⊎ (new ≡ wanting (if refused then failed old else succeeded old))
 ActEnds refused fits old new (Err (OutOfOrder entry)) = (refused ≡ false) × (fits ≡ true) × (new ≡ failed old)
 
 -- ---- an operation

@@ -6,6 +6,7 @@ use Rattle.satp_base.specs.declared.area.Event.{Event}
 use Rattle.satp_base.specs.declared.area.Event.TheVariants.{Acted, Founded}
 use Rattle.satp_base.specs.LedgerAt.{ledger_at}
 use Rattle.satp_base.specs.Ledgers.{Entries}
+use Rattle.satp_base.specs.declared.ledger.LedgerCall.{LedgerCall}
 use Rattle.satp_base.specs.Trail.{IsImage, IsOutside, Standing, Trail, extended, standing}
 use Rattle.satp_memory.specs.declared.disk.MemDisk.{MemDisk}
 use Rattle.satp_memory.specs.Areas.{bytes_in}
@@ -84,6 +85,20 @@ EndsOrWants old new (Ok done) = (is_refused (is_stopped old) old.calls ≡ false
 EndsOrWants old new (Err fault) =
     ((is_refused (is_stopped old) old.calls ≡ true) × (new.calls ≡ failed old.calls))
     ⊎ ((is_stopped old ≡ false) × (new.calls ≡ wanting (begun false old.calls)))
+
+-- One that notes a directory always looks for memory. It is noted, also by a call that fails, unless none was found, which is counted.
+abbrev pub EntersOrWants : {T E : Type 0} → List ℕ → MemDisk → MemDisk → Result T E → Type 0
+EntersOrWants dir old new (Ok done) = (is_refused (is_stopped old) old.calls ≡ false) × (new.calls ≡ succeeded old.calls)
+EntersOrWants dir old new (Err fault) =
+    ((is_refused (is_stopped old) old.calls ≡ true) × (new.calls ≡ failed old.calls) × (new.dirs.items ≡ old.dirs.items ++ dir ∷ []))
+    ⊎ (new.calls ≡ wanting (begun (is_stopped old) old.calls))
+
+-- A call on the ledger is told by name, also one that fails, unless no memory was found, which is counted.
+abbrev pub Notes : {T E : Type 0} → LedgerCall → MemDisk → MemDisk → Result T E → Type 0
+Notes call old new (Ok done) = new.asks.items ≡ old.asks.items ++ call ∷ []
+Notes call old new (Err fault) =
+    (new.asks.items ≡ old.asks.items ++ call ∷ [])
+    ⊎ (new.calls ≡ wanting (begun (is_stopped old) old.calls))
 
 -- the events that a call adds: one where it succeeds, none behind a stop or where no memory was found, and else those of a named one
 abbrev pub Adds : {T E : Type 0} → Event → List Event → MemDisk → MemDisk → Result T E → Type 0

@@ -40,11 +40,11 @@ impl MemDisk {
     ghost use Rattle.satp_base.specs.declared.area.Area.{Area};
     ghost use Rattle.satp_base.specs.declared.area.Event.TheVariants.{Acted, Wrote, Cut, Synced};
     ghost use Rattle.satp_memory.specs.Areas.{bytes_in};
-    ghost use Rattle.satp_memory.specs.Calling.{cleared, fresh, is_refused, missed, naming};
+    ghost use Rattle.satp_memory.specs.Calling.{cleared, fresh, begun, is_refused, naming, wanting};
     ghost use Rattle.satp_memory.specs.Sites.{LedgerEnds};
     ghost use Rattle.satp_base.specs.declared.ledger.LedgerCall.TheVariants.{Found};
     ghost use Rattle.satp_memory.specs.Stopping.{stop_after};
-    ghost use Rattle.satp_memory.specs.Steps.{Does, IsFresh, IsOfLedger, Restarts, SameDisk, adding, entries_of, is_stopped, told_of};
+    ghost use Rattle.satp_memory.specs.Steps.{Does, IsFresh, IsOfLedger, Notes, Restarts, SameDisk, adding, entries_of, is_stopped, told_of};
     ghost use Rattle.satp_base.specs.LedgerAt.{entries_after};
     ghost use Rattle.satp_base.specs.LedgerRule.{moved_entries};
     ghost use Rattle.satp_base.specs.Acts.{Asks};
@@ -150,6 +150,7 @@ impl MemDisk {
     /// Counts a call on the ledger and notes it. It fails where it was named or the stop was reached, or where no memory was found to note it.
     pub(crate) fn ask(&mut self, call: LedgerCall) -> Result<(), Memory>
         ensures told { Asks call [] result (Some (told_of self.old)) (Some (told_of self.new)) }
+        ensures noted { Notes call self.old self.new result }
         ensures cause { HasCause self.old.calls.faults self.new.calls.faults result }
         ensures ended { LedgerEnds (is_refused (is_stopped self.old) self.old.calls) true self.old.calls self.new.calls result }
         ensures past { self.new.past.items ≡ self.old.past.items }
@@ -166,9 +167,7 @@ impl MemDisk {
                 Ok(())
             }
             Err(_) => {
-                if !refused {
-                    self.calls.want();
-                }
+                self.calls.want();
                 Err(Memory)
             }
         }
@@ -190,6 +189,7 @@ impl MemDisk {
     /// The same of a founding, whose genesis it copies.
     pub(crate) fn ask_founding(&mut self, kind: LedgerKind, genesis: &Genesis) -> Result<(), Memory>
         ensures told { Asks (Found kind genesis.now) [] result (Some (told_of self.old)) (Some (told_of self.new)) }
+        ensures noted { Notes (Found kind genesis.now) self.old self.new result }
         ensures cause { HasCause self.old.calls.faults self.new.calls.faults result }
         ensures ended { LedgerEnds (is_refused (is_stopped self.old) self.old.calls) true self.old.calls self.new.calls result }
         ensures past { self.new.past.items ≡ self.old.past.items }
@@ -210,21 +210,21 @@ impl MemDisk {
         ensures told { told_of self.new ≡ made 1 [] (told_of self.old) }
         ensures rose { Rose self.old.calls.faults self.new.calls.faults }
         ensures later { self.old.calls.faults ≤ self.new.calls.faults }
-        ensures calls { self.new.calls ≡ missed (is_refused (is_stopped self.old) self.old.calls) self.old.calls }
+        ensures calls { self.new.calls ≡ wanting (begun (is_stopped self.old) self.old.calls) }
         ensures past { self.new.past.items ≡ self.old.past.items }
         ensures events { self.new.events.items ≡ self.old.events.items }
         ensures stop { self.new.stop ≡ self.old.stop }
     {
         let stopped = self.is_stopped();
-        if !self.calls.begin(stopped) {
-            self.calls.want();
-        }
+        self.calls.begin(stopped);
+        self.calls.want();
     }
 
     /// Finds room for one event more.
     pub(crate) fn find_room(&mut self) -> Result<(), Memory>
         ensures room { OnOk result (vec_len self.new.events < vec_capacity self.new.events) }
         ensures told { told_of self.new ≡ told_of self.old }
+        ensures asks { self.new.asks.items ≡ self.old.asks.items }
         ensures past { self.new.past.items ≡ self.old.past.items }
         ensures events { self.new.events.items ≡ self.old.events.items }
         ensures stop { self.new.stop ≡ self.old.stop }
@@ -239,6 +239,7 @@ impl MemDisk {
         requires room { vec_len self.old.events < vec_capacity self.old.events }
         requires ledger { IsOfLedger event }
         ensures told { told_of self.new ≡ adding (event ∷ []) (told_of self.old) }
+        ensures asks { self.new.asks.items ≡ self.old.asks.items }
         ensures entries { entries_of self.new ≡ entries_after (entries_of self.old) event }
         ensures stop { self.new.stop ≡ self.old.stop }
         ensures calls { self.new.calls ≡ self.old.calls }
@@ -256,6 +257,7 @@ impl MemDisk {
     )
         requires room { vec_len self.old.events < vec_capacity self.old.events }
         ensures told { told_of self.new ≡ adding (if changed then Acted op session terms ∷ [] else []) (told_of self.old) }
+        ensures asks { self.new.asks.items ≡ self.old.asks.items }
         ensures entries { entries_of self.new ≡ (if changed then moved_entries (entries_of self.old) op session terms else entries_of self.old) }
         ensures stop { self.new.stop ≡ self.old.stop }
         ensures calls { self.new.calls ≡ self.old.calls }
@@ -383,13 +385,13 @@ impl Disk for MemDisk {
     ghost use Rattle.satp_base.specs.Trail.{seen};
     ghost use Rattle.satp_base.specs.Calls.{Fails, MayMiss, Reads, entered, made};
     ghost use Rattle.satp_base.specs.declared.area.Event.TheVariants.{Wrote, Cut, Synced};
-    ghost use Rattle.satp_memory.specs.Steps.{Adds, Ends, EndsOrWants, told_of};
+    ghost use Rattle.satp_memory.specs.Steps.{Adds, Ends, EndsOrWants, EntersOrWants, told_of};
 
     fn enter(&mut self, dir: &[u8]) -> Result<(), DiskFault>
         ensures ok { OnOk result (told_of self.new ≡ entered dir.now (told_of self.old)) }
         ensures err { OnErr result (MayMiss (entered dir.now) (Some (told_of self.old)) (Some (told_of self.new))) }
         ensures cause { HasCause self.old.calls.faults self.new.calls.faults result }
-        ensures ended { EndsOrWants self.old self.new result }
+        ensures ended { EntersOrWants dir.now self.old self.new result }
         ensures past { self.new.past.items ≡ self.old.past.items }
         ensures events { self.new.events.items ≡ self.old.events.items }
         ensures stop { self.new.stop ≡ self.old.stop }
@@ -404,9 +406,7 @@ impl Disk for MemDisk {
                 Ok(())
             }
             Err(_) => {
-                if !refused {
-                    self.calls.want();
-                }
+                self.calls.want();
                 Err(DiskFault)
             }
         }

@@ -109,6 +109,8 @@ impl<C: LedgerCore> MemSite<C> {
         requires { self.old.core ≡ None }
         ensures ok { OnOk result ((told_of self.new.disk ≡ adding (Founded ∷ []) (told_of self.old.disk)) × (option_map C.book self.new.core ≡ Some (founded genesis.now))) }
         ensures err { OnErr result ((told_of self.new.disk ≡ told_of self.old.disk) × (self.new.core ≡ None)) }
+        ensures asks { self.new.disk.asks.items ≡ self.old.disk.asks.items }
+        ensures failed { OnErr result (self.new.disk.events.items ≡ self.old.disk.events.items) }
         ensures stop { self.new.disk.stop ≡ self.old.disk.stop }
         ensures calls { self.new.disk.calls ≡ self.old.disk.calls }
     {
@@ -155,13 +157,13 @@ impl<C: LedgerCore> Disk for MemSite<C> {
     ghost use Rattle.satp_base.specs.Trail.{seen};
     ghost use Rattle.satp_base.specs.Calls.{Fails, MayMiss, Reads, entered, made};
     ghost use Rattle.satp_base.specs.declared.area.Event.TheVariants.{Wrote, Cut, Synced};
-    ghost use Rattle.satp_memory.specs.Steps.{Adds, Ends, EndsOrWants, told_of};
+    ghost use Rattle.satp_memory.specs.Steps.{Adds, Ends, EndsOrWants, EntersOrWants, told_of};
 
     fn enter(&mut self, dir: &[u8]) -> Result<(), DiskFault>
         ensures ok { OnOk result (told_of self.new.disk ≡ entered dir.now (told_of self.old.disk)) }
         ensures err { OnErr result (MayMiss (entered dir.now) (Some (told_of self.old.disk)) (Some (told_of self.new.disk))) }
         ensures cause { HasCause self.old.disk.calls.faults self.new.disk.calls.faults result }
-        ensures ended { EndsOrWants self.old.disk self.new.disk result }
+        ensures ended { EntersOrWants dir.now self.old.disk self.new.disk result }
         ensures stop { self.new.disk.stop ≡ self.old.disk.stop }
         ensures core { self.new.core ≡ self.old.core }
     {
@@ -236,15 +238,16 @@ impl<C: LedgerCore> Ledger for MemSite<C> {
     ghost use Rattle.satp_base.specs.Streams.{HasCause};
     ghost use Rattle.satp_base.specs.Acts.{Asks, MayAnswer};
     ghost use Rattle.satp_base.specs.LedgerRule.{entry_of};
-    ghost use Rattle.satp_base.specs.declared.ledger.LedgerCall.TheVariants.{Look};
+    ghost use Rattle.satp_base.specs.declared.ledger.LedgerCall.TheVariants.{Act, Look};
     ghost use Rattle.satp_memory.specs.Calling.{is_refused};
     ghost use Rattle.satp_memory.specs.Sites.{ActEnds, ActTells, LedgerEnds};
-    ghost use Rattle.satp_memory.specs.Steps.{is_stopped, told_of};
+    ghost use Rattle.satp_memory.specs.Steps.{Notes, is_stopped, told_of};
 
     /// It takes no effect where it fails.
     fn act(&mut self, op: LedgerOp, session: SessionId, terms: &Terms) -> Result<Answer, ActFault>
         ensures answer { IfOk result (MayAnswer op) }
         ensures told { ActTells op session terms.now (option_map C.book self.old.core) result (option_map C.book self.new.core) (told_of self.old.disk) (told_of self.new.disk) }
+        ensures noted { Notes (Act op session terms.now) self.old.disk self.new.disk result }
         ensures cause { HasCause self.old.disk.calls.faults self.new.disk.calls.faults result }
         ensures ended { ActEnds (is_refused (is_stopped self.old.disk) self.old.disk.calls) (is_some (option_map C.book self.old.core)) self.old.disk.calls self.new.disk.calls result }
         ensures failed { OnErr result ((option_map C.book self.new.core ≡ option_map C.book self.old.core) × (self.new.disk.events.items ≡ self.old.disk.events.items)) }
@@ -280,6 +283,7 @@ impl<C: LedgerCore> Ledger for MemSite<C> {
         ensures entry { IfOk result (λ entry. IfSome (option_map C.book self.old.core) (λ b. entry ≡ entry_of b.entries session)) }
         ensures fault { IfErr result (λ fault. fault ≡ ActFault.Failed) }
         ensures told { Asks (Look session) [] result (Some (told_of self.old.disk)) (Some (told_of self.new.disk)) }
+        ensures noted { Notes (Look session) self.old.disk self.new.disk result }
         ensures cause { HasCause self.old.disk.calls.faults self.new.disk.calls.faults result }
         ensures ended { LedgerEnds (is_refused (is_stopped self.old.disk) self.old.disk.calls) (is_some (option_map C.book self.old.core)) self.old.disk.calls self.new.disk.calls result }
         ensures stop { self.new.disk.stop ≡ self.old.disk.stop }
@@ -300,20 +304,23 @@ impl<C: LedgerCore> Ledger for MemSite<C> {
 }
 
 impl<C: LedgerCore> Site for MemSite<C> {
-    ghost use Rattle.std.specs.Prelude.{◌≡◌, List, [], Some, is_some};
+    ghost use Rattle.std.specs.Prelude.{◌≡◌, List, [], Some, is_some, OnErr};
     ghost use Rattle.satp_base.specs.Streams.{HasCause};
     ghost use Rattle.satp_base.specs.Acts.{Asks, FoundEvents, FoundsBook};
     ghost use Rattle.satp_base.specs.declared.area.Event.{Event};
     ghost use Rattle.satp_base.specs.declared.ledger.LedgerCall.TheVariants.{Found, Raise};
     ghost use Rattle.satp_memory.specs.Calling.{is_refused};
     ghost use Rattle.satp_memory.specs.Sites.{LedgerEnds, same_kind};
-    ghost use Rattle.satp_memory.specs.Steps.{is_stopped, told_of};
+    ghost use Rattle.satp_memory.specs.Steps.{Notes, is_stopped, told_of};
     ghost use Rattle.satp_memory.specs.OneLedger.{one_ledger_of};
 
+    /// One that fails leaves no ledger, and adds no event.
     fn found(&mut self, kind: LedgerKind, genesis: &Genesis) -> Result<(), SiteFault>
         ensures told { (events : List Event) × FoundEvents result events
             × Asks (Found kind genesis.now) events result (Some (told_of self.old.disk)) (Some (told_of self.new.disk)) }
+        ensures noted { Notes (Found kind genesis.now) self.old.disk self.new.disk result }
         ensures ledger { FoundsBook genesis.now result (Some (told_of self.old.disk)) (option_map C.book self.new.core) }
+        ensures failed { OnErr result (self.new.disk.events.items ≡ self.old.disk.events.items) }
         ensures cause { HasCause self.old.disk.calls.faults self.new.disk.calls.faults result }
         ensures ended { LedgerEnds (is_refused (is_stopped self.old.disk) self.old.disk.calls) (same_kind kind C.KIND) self.old.disk.calls self.new.disk.calls result }
         ensures stop { self.new.disk.stop ≡ self.old.disk.stop }
@@ -338,6 +345,7 @@ impl<C: LedgerCore> Site for MemSite<C> {
 
     fn raise(&mut self) -> Result<(), SiteFault>
         ensures told { Asks Raise [] result (Some (told_of self.old.disk)) (Some (told_of self.new.disk)) }
+        ensures noted { Notes Raise self.old.disk self.new.disk result }
         ensures cause { HasCause self.old.disk.calls.faults self.new.disk.calls.faults result }
         ensures ended { LedgerEnds (is_refused (is_stopped self.old.disk) self.old.disk.calls) (is_some (option_map C.book self.old.core)) self.old.disk.calls self.new.disk.calls result }
         ensures stop { self.new.disk.stop ≡ self.old.disk.stop }

@@ -3,7 +3,7 @@ use Rattle.std.specs.Prelude.{◌≡◌, ℕ, List, [], ◌∷◌, Some, None, O
 use Rattle.satp_base.specs.Trail.{settled, wrote}
 use Rattle.satp_base.specs.declared.ledger.ActFault.TheVariants.{Failed, OutOfOrder}
 use Rattle.satp_base.specs.declared.ledger.Entry.TheVariants.{Locked}
-use Rattle.satp_memory.specs.Calling.{Calling, begun, cleared, failed, fresh, is_due, is_refused, missed, naming, succeeded, wanting}
+use Rattle.satp_memory.specs.Calling.{Calling, begun, cleared, failed, fresh, is_due, is_refused, naming, succeeded, wanting}
 use Rattle.satp_memory.specs.Picks.{Picks}
 use Rattle.satp_memory.specs.Sites.{ActEnds, LedgerEnds}
 use Rattle.satp_memory.specs.Steps.{IsPicked}
@@ -23,14 +23,15 @@ pub record CallsThatFail : Type 0 where
   pub counts_of_a_failure : begun false (naming 1 fresh) ≡ record { count = 1; faults = 1; wants = 0; named = 1 ∷ [] }
   pub counts_behind_a_stop : begun true fresh ≡ record fresh { count = 1; faults = 1 }
   -- want of memory is a fault that is counted beside
-  pub counts_without_memory : missed false fresh ≡ record fresh { count = 1; faults = 1; wants = 1 }
-  pub counts_where_it_fails_anyway : missed true fresh ≡ record fresh { count = 1; faults = 1 }
+  pub counts_without_memory : wanting (begun false fresh) ≡ record fresh { count = 1; faults = 1; wants = 1 }
+  pub counts_where_it_fails_anyway : wanting (begun true fresh) ≡ record fresh { count = 1; faults = 2; wants = 1 }
 
 pub record CallsOnLedgers : Type 0 where
   pub done : LedgerEnds {T = ℕ} {E = ℕ} false true fresh (succeeded fresh) (Ok 0)
   pub failed_where_named : LedgerEnds {T = ℕ} {E = ℕ} true true fresh (failed fresh) (Err 0)
   pub failed_where_not_founded : LedgerEnds {T = ℕ} {E = ℕ} false false fresh (failed fresh) (Err 0)
   pub without_memory : LedgerEnds {T = ℕ} {E = ℕ} false true fresh (wanting (succeeded fresh)) (Err 0)
+  pub without_memory_where_named : LedgerEnds {T = ℕ} {E = ℕ} true true fresh (wanting (failed fresh)) (Err 0)
   pub not_done_where_named : (new : Calling) → ¬ LedgerEnds {T = ℕ} {E = ℕ} true true fresh new (Ok 0)
   pub not_done_where_not_founded : (new : Calling) → ¬ LedgerEnds {T = ℕ} {E = ℕ} false false fresh new (Ok 0)
   pub not_failed_for_nothing : ¬ LedgerEnds {T = ℕ} {E = ℕ} false true fresh (failed fresh) (Err 0)

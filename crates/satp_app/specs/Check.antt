@@ -5,7 +5,7 @@ use Rattle.satp_base.specs.Signatures.{jws}
 use Rattle.satp_base.specs.declared.message.Kind.{Kind}
 use Rattle.satp_base.specs.declared.message.Message.{Message}
 use Rattle.satp_canon.specs.FirstFault.{first_fault}
-use Rattle.satp_jws.specs.Faults.{header_fault, jws_fault}
+use Rattle.satp_jws.specs.Faults.{header_fault, jws_fault, payload_of}
 use Rattle.satp_app.specs.Texts.{IsOnly}
 use Rattle.satp_app.specs.declared.outcome.Refusal.{Refusal}
 use Rattle.satp_app.specs.declared.outcome.Refusal.TheVariants.{Text, Signature, Kind as OtherKind, Receiver}
@@ -30,6 +30,7 @@ check_says text (Refuses refusal) = check_refuses text refusal
 
 -- the text is the compact JWS of these bytes under the key, with a header that is accepted
 pub record IsSigned (key text payload : List ℕ) : Type 0 where
+  pub own : payload ≡ payload_of text
   pub header : List ℕ
   pub accepted : header_fault header ≡ None
   pub signed : text ≡ jws key header payload

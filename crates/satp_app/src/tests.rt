@@ -41,9 +41,25 @@ struct Ran {
     err: MemSink,
 }
 
-fn run_with(alloc: Global, list: &[&str], input: &[u8]) -> Result<Ran, Memory> {
-    let mut site: MemSite<Accounts> = MemSite::new(alloc)?;
-    run_at(alloc, &mut site, list, input)
+impl Ran {
+    /// Whether it ended with this status, these bytes of output and this line on standard error.
+    fn is(&self, status: u8, out: &[u8], err: &[u8]) -> bool {
+        self.status == status && self.out.bytes() == out && self.err.bytes() == err
+    }
+}
+
+/// A run over these devices. It has no `ensures`: what `run` promises is long, and the tests assert what they show.
+fn run_over(
+    alloc: Global,
+    site: &mut MemSite<Accounts>,
+    list: &[&str],
+    mut input: MemSource,
+    mut out: MemSink,
+) -> Result<Ran, Memory> {
+    let words = words(alloc, list)?;
+    let mut err = MemSink::new(alloc)?;
+    let status = run(alloc, &words, site, &mut input, &mut out, &mut err);
+    Ok(Ran { status, out, err })
 }
 
 /// A run at a site.
@@ -53,107 +69,157 @@ fn run_at(
     list: &[&str],
     input: &[u8],
 ) -> Result<Ran, Memory> {
-    let words = words(alloc, list)?;
-    let mut input = MemSource::new(alloc, input)?;
-    let mut out = MemSink::new(alloc)?;
-    let mut err = MemSink::new(alloc)?;
-    let status = run(alloc, &words, site, &mut input, &mut out, &mut err);
-    Ok(Ran { status, out, err })
+    let input = MemSource::new(alloc, input)?;
+    let out = MemSink::new(alloc)?;
+    run_over(alloc, site, list, input, out)
+}
+
+/// A run at a new site.
+fn run_with(alloc: Global, list: &[&str], input: &[u8]) -> Result<Ran, Memory> {
+    let mut site = MemSite::new(alloc)?;
+    run_at(alloc, &mut site, list, input)
+}
+
+const INIT: [&str; 13] = [
+    "init",
+    "--dir",
+    "d",
+    "--name",
+    "alpha",
+    "--peer",
+    "beta",
+    "--at",
+    "127.0.0.1:1",
+    "--key",
+    KEY,
+    "--ledger",
+    "accounts",
+];
+
+const GENESIS: &[u8] = b"asset gold 100\nhold gold ann 10\n";
+
+/// A command, its input, and what it is to end with.
+#[derive(Clone, Copy)]
+struct Case {
+    words: &'static [&'static str],
+    input: &'static [u8],
+    status: u8,
+    out: &'static [u8],
+    err: &'static [u8],
+}
+
+/// Whether the command ends as it is to.
+fn holds(alloc: Global, case: Case) -> Result<bool, Memory> {
+    let ran = run_with(alloc, case.words, case.input)?;
+    Ok(ran.is(case.status, case.out, case.err))
+}
+
+/// A case of a command that is done.
+fn done(words: &'static [&'static str], input: &'static [u8], out: &'static [u8]) -> Case {
+    Case {
+        words,
+        input,
+        status: 0,
+        out,
+        err: b"",
+    }
+}
+
+/// A case of a command that prints nothing but a line on standard error.
+fn refused(
+    words: &'static [&'static str],
+    input: &'static [u8],
+    status: u8,
+    err: &'static [u8],
+) -> Case {
+    Case {
+        words,
+        input,
+        status,
+        out: b"",
+        err,
+    }
 }
 
 #[test]
-fn a_proposal_is_answered(rt: HostRuntime) -> Result<(), Fail> {
-    let done = run_with(rt.alloc(), &["answer", "beta"], PROPOSAL)?;
-    assert_eq!(rt; done.status, 0);
-    assert_eq!(rt; done.out.bytes(), RECEIPT);
-    assert_eq!(rt; done.err.bytes().len(), 0);
-
-    let other = run_with(rt.alloc(), &["answer", "gamma"], PROPOSAL)?;
-    assert_eq!(rt; other.status, 4);
-    assert_eq!(rt; other.out.bytes().len(), 0);
+fn each_command_prints_its_line(rt: HostRuntime) -> Result<(), Fail> {
+    for case in [
+        done(&["answer", "beta"], PROPOSAL, RECEIPT),
+        done(&["check"], PROPOSAL, b"text transfer-proposal 242 bytes\n"),
+        done(
+            &["check", "--key", KEY],
+            SIGNED,
+            b"jws transfer-proposal 388 bytes\n",
+        ),
+        done(&INIT, b"asset gold 100\n", b"alpha ready\n"),
+    ] {
+        assert!(rt; holds(rt.alloc(), case)?, "{:?}", case.words);
+    }
     Ok(())
 }
 
 #[test]
-fn refusals_have_lines(rt: HostRuntime) -> Result<(), Fail> {
-    let empty = run_with(rt.alloc(), &["answer", "beta"], b"")?;
-    assert_eq!(rt; empty.status, 5);
-    assert_eq!(rt;
-        empty.err.bytes(),
-        b"satp: input refused: json\n".as_slice()
-    );
-
-    let receipt = run_with(rt.alloc(), &["answer", "alpha"], RECEIPT)?;
-    assert_eq!(rt; receipt.status, 5);
-    assert_eq!(rt;
-        receipt.err.bytes(),
-        b"satp: input refused: kind\n".as_slice()
-    );
-
-    let alone = run_with(rt.alloc(), &["answer"], PROPOSAL)?;
-    assert_eq!(rt; alone.status, 2);
+fn each_refusal_has_a_status_and_a_line(rt: HostRuntime) -> Result<(), Fail> {
+    for case in [
+        refused(&["answer"], PROPOSAL, 2, b"satp: words refused\n"),
+        refused(
+            &["answer", "gamma"],
+            PROPOSAL,
+            4,
+            b"satp: not the receiver\n",
+        ),
+        refused(&["answer", "beta"], b"", 5, b"satp: input refused: json\n"),
+        refused(
+            &["answer", "alpha"],
+            RECEIPT,
+            5,
+            b"satp: input refused: kind\n",
+        ),
+        refused(
+            &["check"],
+            b"{\"kind\": \"recover\"}",
+            5,
+            b"satp: input refused: member last\n",
+        ),
+        refused(
+            &["check", "--key", KEY],
+            PROPOSAL,
+            5,
+            b"satp: input refused: jws parts 2\n",
+        ),
+        refused(
+            &INIT,
+            b"asset gold 0\n",
+            5,
+            b"satp: genesis line 1 refused\n",
+        ),
+    ] {
+        assert!(rt; holds(rt.alloc(), case)?, "{:?}", case.words);
+    }
     Ok(())
 }
 
-#[test]
-fn texts_are_checked(rt: HostRuntime) -> Result<(), Fail> {
-    let text = run_with(rt.alloc(), &["check"], PROPOSAL)?;
-    assert_eq!(rt; text.status, 0);
-    assert_eq!(rt;
-        text.out.bytes(),
-        b"text transfer-proposal 242 bytes\n".as_slice()
-    );
-
-    let spaced = run_with(rt.alloc(), &["check"], b"{\"kind\": \"recover\"}")?;
-    assert_eq!(rt; spaced.status, 5);
-    assert_eq!(rt;
-        spaced.err.bytes(),
-        b"satp: input refused: member last\n".as_slice()
-    );
-    Ok(())
+/// Answers the proposal over these devices.
+fn answered(alloc: Global, input: MemSource, out: MemSink) -> Result<Ran, Memory> {
+    let mut site = MemSite::new(alloc)?;
+    run_over(alloc, &mut site, &["answer", "beta"], input, out)
 }
 
 #[test]
-fn signatures_are_checked(rt: HostRuntime) -> Result<(), Fail> {
-    let signed = run_with(rt.alloc(), &["check", "--key", KEY], SIGNED)?;
-    assert_eq!(rt; signed.status, 0);
-    assert_eq!(rt;
-        signed.out.bytes(),
-        b"jws transfer-proposal 388 bytes\n".as_slice()
-    );
-
-    let bare = run_with(rt.alloc(), &["check", "--key", KEY], PROPOSAL)?;
-    assert_eq!(rt; bare.status, 5);
-    assert_eq!(rt;
-        bare.err.bytes(),
-        b"satp: input refused: jws parts 2\n".as_slice()
-    );
-    Ok(())
-}
-
-#[test]
-fn failures_of_devices(rt: HostRuntime) -> Result<(), Fail> {
-    let alloc = rt.alloc();
-    let words = words(alloc, &["answer", "beta"])?;
-    let mut site: MemSite<Accounts> = MemSite::new(alloc)?;
-    let mut input = MemSource::new(alloc, PROPOSAL)?;
-    let mut out = MemSink::new(alloc)?;
-    let mut err = MemSink::new(alloc)?;
+fn a_failed_read_is_told(rt: HostRuntime) -> Result<(), Fail> {
+    let mut input = MemSource::new(rt.alloc(), PROPOSAL)?;
     input.fail(2)?;
-    assert_eq!(rt;
-        run(alloc, &words, &mut site, &mut input, &mut out, &mut err),
-        11
-    );
-    assert_eq!(rt; out.bytes().len(), 0);
-    assert_eq!(rt; err.bytes(), b"satp: input failed\n".as_slice());
+    let ran = answered(rt.alloc(), input, MemSink::new(rt.alloc())?)?;
+    assert!(rt; ran.is(11, b"", b"satp: input failed\n"));
+    Ok(())
+}
 
-    let mut input = MemSource::new(alloc, PROPOSAL)?;
+#[test]
+fn a_failed_write_is_told(rt: HostRuntime) -> Result<(), Fail> {
+    let mut out = MemSink::new(rt.alloc())?;
     out.fail(1)?;
-    assert_eq!(rt;
-        run(alloc, &words, &mut site, &mut input, &mut out, &mut err),
-        11
-    );
-    assert_eq!(rt; out.bytes().len(), 0);
+    let ran = answered(rt.alloc(), MemSource::new(rt.alloc(), PROPOSAL)?, out)?;
+    assert!(rt; ran.is(11, b"", b"satp: output failed\n"));
     Ok(())
 }
 
@@ -177,9 +243,8 @@ impl Sink for Slow {
     }
 }
 
-#[test]
-fn a_slow_output_gets_all(rt: HostRuntime) -> Result<(), Fail> {
-    let alloc = rt.alloc();
+/// The status of an answer to the proposal, and what a slow output took of it.
+fn answered_slowly(alloc: Global) -> Result<(u8, Text), Memory> {
     let words = words(alloc, &["answer", "beta"])?;
     let mut site: MemSite<Accounts> = MemSite::new(alloc)?;
     let mut input = MemSource::new(alloc, PROPOSAL)?;
@@ -187,68 +252,52 @@ fn a_slow_output_gets_all(rt: HostRuntime) -> Result<(), Fail> {
         bytes: Text::copy(alloc, b"")?,
     };
     let mut err = MemSink::new(alloc)?;
-    assert_eq!(rt;
-        run(alloc, &words, &mut site, &mut input, &mut out, &mut err),
-        0
-    );
-    assert_eq!(rt; out.bytes.bytes(), RECEIPT);
+    let status = run(alloc, &words, &mut site, &mut input, &mut out, &mut err);
+    Ok((status, out.bytes))
+}
+
+#[test]
+fn a_slow_output_gets_all(rt: HostRuntime) -> Result<(), Fail> {
+    let (status, taken) = answered_slowly(rt.alloc())?;
+    assert_eq!(rt; status, 0);
+    assert_eq!(rt; taken.bytes(), RECEIPT);
     Ok(())
 }
 
-const INIT: [&str; 13] = [
-    "init",
-    "--dir",
-    "d",
-    "--name",
-    "alpha",
-    "--peer",
-    "beta",
-    "--at",
-    "127.0.0.1:1",
-    "--key",
-    KEY,
-    "--ledger",
-    "accounts",
-];
+/// Whether an `init` at the site ends so.
+fn init_ends(
+    alloc: Global,
+    site: &mut MemSite<Accounts>,
+    status: u8,
+    out: &[u8],
+    err: &[u8],
+) -> Result<bool, Memory> {
+    Ok(run_at(alloc, site, &INIT, GENESIS)?.is(status, out, err))
+}
 
 #[test]
 fn a_gateway_is_set_up_once(rt: HostRuntime) -> Result<(), Fail> {
-    let alloc = rt.alloc();
-    let mut site: MemSite<Accounts> = MemSite::new(alloc)?;
-    let first = run_at(alloc, &mut site, &INIT, b"asset gold 100\n")?;
-    assert_eq!(rt; first.status, 0);
-    assert_eq!(rt; first.out.bytes(), b"alpha ready\n".as_slice());
-    let again = run_at(alloc, &mut site, &INIT, b"asset gold 100\n")?;
-    assert_eq!(rt; again.status, 13);
-    assert_eq!(rt; again.err.bytes(), b"satp: gateway is there\n".as_slice());
+    let mut site = MemSite::new(rt.alloc())?;
+    let first = init_ends(rt.alloc(), &mut site, 0, b"alpha ready\n", b"")?;
+    let again = init_ends(rt.alloc(), &mut site, 13, b"", b"satp: gateway is there\n")?;
+    assert_eq!(rt; (first, again), (true, true));
     Ok(())
 }
 
-#[test]
-fn a_genesis_is_refused(rt: HostRuntime) -> Result<(), Fail> {
-    let refused = run_with(rt.alloc(), &INIT, b"asset gold 0\n")?;
-    assert_eq!(rt; refused.status, 5);
-    assert_eq!(rt;
-        refused.err.bytes(),
-        b"satp: genesis line 1 refused\n".as_slice()
-    );
-    Ok(())
+/// A site whose journal has a whole record and a cut one.
+fn damaged(alloc: Global) -> Result<MemSite<Accounts>, Memory> {
+    let mut site = MemSite::new(alloc)?;
+    match site.write(Area::JournalA, 0, b"\x01\x00\x03abc\x01") {
+        Ok(()) => Ok(site),
+        Err(_) => Err(Memory),
+    }
 }
 
 #[test]
 fn damage_is_told(rt: HostRuntime) -> Result<(), Fail> {
-    let alloc = rt.alloc();
-    let mut site: MemSite<Accounts> = MemSite::new(alloc)?;
-    assert!(rt;
-        site.write(Area::JournalA, 0, b"\x01\x00\x03abc\x01")
-            .is_ok()
-    );
-    let damaged = run_at(alloc, &mut site, &INIT, b"")?;
-    assert_eq!(rt; damaged.status, 9);
-    assert_eq!(rt;
-        damaged.err.bytes(),
-        b"satp: journal damaged at 6\n".as_slice()
-    );
+    let mut site = damaged(rt.alloc())?;
+    let line = b"satp: journal damaged at 6\n";
+    assert!(rt; init_ends(rt.alloc(), &mut site, 9, b"", line)?);
     Ok(())
 }
 
@@ -259,37 +308,47 @@ fn a_long_genesis_is_refused(rt: HostRuntime) -> Result<(), Fail> {
         genesis.append(&[b'x'; 1024])?;
     }
     let long = run_with(rt.alloc(), &INIT, genesis.bytes())?;
-    assert_eq!(rt; long.status, 5);
-    assert_eq!(rt; long.err.bytes(), b"satp: input too long\n".as_slice());
+    assert!(rt; long.is(5, b"", b"satp: input too long\n"));
     Ok(())
 }
 
-const GENESIS: &[u8] = b"asset gold 100\nhold gold ann 10\n";
+/// The status of an `init` at a site.
+fn init(alloc: Global, site: &mut MemSite<Accounts>) -> Result<u8, Memory> {
+    Ok(run_at(alloc, site, &INIT, GENESIS)?.status)
+}
+
+/// The status of a whole `init`, and how many calls on the site it makes.
+fn whole_init(alloc: Global) -> Result<(u8, u64), Memory> {
+    let mut site = MemSite::new(alloc)?;
+    let status = init(alloc, &mut site)?;
+    Ok((status, site.count()))
+}
+
+/// Whether an `init` of which one call on the site fails tells so.
+fn tells_failure(alloc: Global, call: u64) -> Result<bool, Memory> {
+    let mut site = MemSite::new(alloc)?;
+    site.fail(call)?;
+    init_ends(alloc, &mut site, 8, b"", b"satp: site failed\n")
+}
 
 #[test]
 fn each_call_on_the_site_may_fail(rt: HostRuntime) -> Result<(), Fail> {
-    let alloc = rt.alloc();
-    let mut whole: MemSite<Accounts> = MemSite::new(alloc)?;
-    assert_eq!(rt; run_at(alloc, &mut whole, &INIT, GENESIS)?.status, 0);
-    assert!(rt; whole.count() >= 10);
-    for call in 1..=whole.count() {
-        let mut site: MemSite<Accounts> = MemSite::new(alloc)?;
-        site.fail(call)?;
-        let failed = run_at(alloc, &mut site, &INIT, GENESIS)?;
-        assert_eq!(rt; failed.status, 8, "at {call}");
-        assert_eq!(rt; failed.err.bytes(), b"satp: site failed\n".as_slice());
+    let (status, count) = whole_init(rt.alloc())?;
+    assert!(rt; status == 0 && count >= 10);
+    for call in 1..=count {
+        assert!(rt; tells_failure(rt.alloc(), call)?, "at {call}");
     }
     Ok(())
 }
 
 /// The status of an `init` that stops after so many events, and that of one behind the restart.
 fn statuses_around_a_stop(alloc: Global, event: u64, pick: u32) -> Result<(u8, u8), Memory> {
-    let mut site: MemSite<Accounts> = MemSite::new(alloc)?;
+    let mut site = MemSite::new(alloc)?;
     site.stop_at(event, pick);
-    let stopped = run_at(alloc, &mut site, &INIT, GENESIS)?;
+    let stopped = init(alloc, &mut site)?;
     site.restart()?;
-    let again = run_at(alloc, &mut site, &INIT, GENESIS)?;
-    Ok((stopped.status, again.status))
+    let again = init(alloc, &mut site)?;
+    Ok((stopped, again))
 }
 
 // The events are: sync, a closed gate, sync, and with the genesis read: sync, the founding, the record, sync, the

@@ -1,6 +1,5 @@
 -- The texts of a chain, from its end.
-use Rattle.std.proofs.Common.{◌≡◌, ℕ, zero, suc, ◌+◌, ◌-◌, List, [], ◌∷◌, ◌++◌, length, refl, ap, sym, ◌∙◌, arith}
-use Rattle.std.specs.Prelude.{slice_get}
+use Rattle.std.proofs.Common.{◌≡◌, ℕ, zero, suc, ◌+◌, List, [], ◌∷◌, ◌++◌, length, refl, ap, ◌∙◌, arith}
 use Rattle.satp_base.specs.Forms.{IsLink}
 use Rattle.satp_base.specs.Signatures.{own}
 use Rattle.satp_base.specs.Chains.{link_at, link_of, last_link, message_at, next_text, texts_from, texts_of, zero_link}

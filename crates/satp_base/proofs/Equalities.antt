@@ -1,5 +1,5 @@
 -- What a derived `==` tells: that two values are one, both ways. `r` is what it answered, and the test what it computes.
-use Rattle.std.proofs.Common.{◌≡◌, ℕ, ◌&&◌, List, Bool, true, false, nat_eq, IsTrue, ◌↔◌, refl, ap, subst, sym, ◌∙◌}
+use Rattle.std.proofs.Common.{◌≡◌, ◌&&◌, Bool, true, nat_eq, IsTrue, ◌↔◌, refl, subst, sym, ◌∙◌}
 use Rattle.std.specs.Cmp.Lexicographic.{same_text}
 use lib.Pointwise.{pointwise}
 use Rattle.std.proofs.lemmas.Bool.{and_parts, and_from, eqb-true, eq-eqb}
@@ -7,7 +7,6 @@ use Rattle.std.proofs.lemmas.Cmp.{nat_list_eq_equiv}
 use Rattle.satp_base.specs.Keys.{same_name, same_address, same_amount, same_session}
 use Rattle.satp_base.specs.declared.name.Name.{Name}
 use Rattle.satp_base.specs.declared.address.Address.{Address}
-use Rattle.satp_base.specs.declared.amount.Amount.{Amount}
 use Rattle.satp_base.specs.declared.session.SessionId.{SessionId}
 use Rattle.satp_base.specs.declared.message.Terms.{Terms}
 

@@ -1,5 +1,5 @@
 -- Finite lists, and tests over all of their items that the checker computes.
-use Rattle.std.proofs.Common.{◌≡◌, ℕ, Bool, true, false, List, [], ◌∷◌, ◌++◌, refl, sym, subst, ◌⊎◌, inl, inr}
+use Rattle.std.proofs.Common.{◌≡◌, Bool, true, false, List, [], ◌∷◌, ◌++◌, refl, sym, subst, ◌⊎◌, inl, inr}
 
 -- a test behind another one, which is not made where the first fails
 abbrev pub andthen : Bool → (Unit {0} → Bool) → Bool

@@ -1,5 +1,5 @@
 -- What the lines of a genesis are read as.
-use Rattle.std.proofs.Common.{◌≡◌, ℕ, ◌==◌, Bool, true, false, not, List, [], ◌∷◌, ◌++◌, nat_eq, refl, ap, ap₂, sym, subst, ◌∙◌}
+use Rattle.std.proofs.Common.{◌≡◌, ℕ, Bool, true, false, not, List, [], ◌∷◌, ◌++◌, nat_eq, refl, ap, sym, subst, ◌∙◌}
 use Rattle.std.specs.Prelude.{Option, Some, None, Result, Ok, Err, MatchOption, OnOk, codes, option_map}
 use Rattle.std.specs.List.{list_all}
 use Rattle.std.proofs.lemmas.Bool.{and_parts, and_from, ne_eqb}
@@ -14,7 +14,7 @@ use Rattle.satp_base.specs.declared.amount.Amount.{Amount}
 use Rattle.satp_base.specs.declared.genesis.Hold.{Hold}
 use Rattle.satp_base.specs.declared.genesis.Line.{Line}
 use Rattle.satp_base.specs.declared.genesis.Line.TheVariants as line
-use Rattle.satp_base.specs.Values.{amount_text, name_text}
+use Rattle.satp_base.specs.Values.{name_text}
 use Rattle.satp_base.specs.declared.name.Name.{Name}
 use Rattle.satp_base.proofs.Exact.{name_bytes}
 use Rattle.satp_base.proofs.LineLemmas.{lacks_not, one_cut}

@@ -1,13 +1,13 @@
 -- Lines that are read one after the other.
-use Rattle.std.proofs.Common.{◌≡◌, ◌≢◌, ℕ, zero, suc, ◌+◌, ◌-◌, ◌<◌, ◌≤◌, ◌==◌, ◌&&◌, Bool, true, false, not, cond, List, [], ◌∷◌, ◌++◌, length, take, drop, Option, Some, None, refl, ap, ap₂, subst, sym, ◌∙◌, arith, append_assoc, append-nil, length-append, length-drop, add-one}
-use Rattle.std.specs.Prelude.{position, slice_range}
-use Rattle.std.specs.List.{list_all, position_from}
+use Rattle.std.proofs.Common.{◌≡◌, ◌≢◌, ℕ, zero, suc, ◌+◌, ◌-◌, ◌<◌, ◌≤◌, ◌==◌, Bool, true, false, not, cond, List, [], ◌∷◌, ◌++◌, length, take, drop, Option, Some, None, refl, ap, ap₂, subst, sym, ◌∙◌, arith, append_assoc, length-append, length-drop, add-one}
+use Rattle.std.specs.Prelude.{position}
+use Rattle.std.specs.List.{position_from}
 use Rattle.std.proofs.lemmas.Bool.{and_parts, and_from, eqb-true, eq-eqb}
 use Rattle.std.proofs.lemmas.Iterator.Adapters.{position_from-zero}
 use Rattle.std.proofs.lemmas.List.{drop-take, take-append-drop}
 use Rattle.std.proofs.lemmas.Grind.{common_steps}
 use Rattle.std.proofs.Math.Seq.{drop-append-add, take-append_seam, take-length}
-use Rattle.satp_base.specs.Lines.{IsLines, Runs, StopsAt, are_lines, is_line, lacks, lines_text}
+use Rattle.satp_base.specs.Lines.{Front, IsLines, Runs, StopsAt, are_lines, is_line, lacks, lines_text}
 
 abbrev pub is_feed : ℕ → Bool
 is_feed b = b == 10
@@ -121,19 +121,29 @@ module _ {R : Type 0} (accepts : R → List ℕ → R → Type 0) where
   some_left : (text : List ℕ) (at : ℕ) → at < length text → drop at text ≢ []
   some_left text at h e = let bad : length (drop at text) ≡ 0 = ap length e in absurd (omega (arith, length-drop {A = ℕ} at text))
 
+  pub front_read : (text : List ℕ) (start now : R) (at number : ℕ) → Reached text start now at number → Front accepts text start now
+  front_read text start now at number r = record { lines = r.lines; rest = drop at text; whole = split_at text at _ r.front; each = r.each; runs = r.runs }
+
+  -- the reading stops, and this is there then
+  abbrev StopsBehind : List ℕ → R → ℕ → R → Type 0
+  StopsBehind text start number after = (stop : StopsAt accepts text start number) × (after ≡ stop.reached)
+
   -- the last line has no line feed
-  pub stops_open : (text : List ℕ) (start now : R) (at number : ℕ) → Reached text start now at number → at < length text → position is_feed (drop at text) ≡ None → StopsAt accepts text start number
-  stops_open text start now at number r some none = record {
-    lines = r.lines;
-    rest = drop at text;
-    reached = now;
-    whole = split_at text at _ r.front;
-    each = r.each;
-    runs = r.runs;
-    counted = r.counted;
-    more = some_left text at some;
-    refused = λ line behind is e next a. no_line 10 (drop at text) line behind none e;
-  }
+  pub stops_open : (text : List ℕ) (start now : R) (at number : ℕ) → Reached text start now at number → at < length text → position is_feed (drop at text) ≡ None → StopsBehind text start number now
+  stops_open text start now at number r some none = (
+    record {
+      lines = r.lines;
+      rest = drop at text;
+      reached = now;
+      whole = split_at text at _ r.front;
+      each = r.each;
+      runs = r.runs;
+      counted = r.counted;
+      more = some_left text at some;
+      refused = λ line behind is e next a. no_line 10 (drop at text) line behind none e;
+    },
+    refl,
+  )
 
   take_line : (line behind : List ℕ) → take (length line) (line ++ 10 ∷ behind) ≡ line
   take_line [] behind = refl
@@ -142,23 +152,25 @@ module _ {R : Type 0} (accepts : R → List ℕ → R → Type 0) where
   pub the_line : (rest : List ℕ) (n : ℕ) (f : First 10 rest n) → take n rest ≡ f.line
   the_line rest n f = ap₂ (λ (k : ℕ) (x : List ℕ). take k x) f.long f.whole ∙ take_line f.line f.behind
 
-  pub stops_refused : (text : List ℕ) (start now : R) (at number n : ℕ) (shown : List ℕ) → Reached text start now at number → at < length text → position is_feed (drop at text) ≡ Some n → shown ≡ take n (drop at text)
-      → ((next : R) → ¬ accepts now shown next) → StopsAt accepts text start number
-  stops_refused text start now at number n shown r some found is never =
-      let f = first 10 (drop at text) n found in
-      record {
-        lines = r.lines;
-        rest = drop at text;
-        reached = now;
-        whole = split_at text at _ r.front;
-        each = r.each;
-        runs = r.runs;
-        counted = r.counted;
-        more = some_left text at some;
-        refused = λ line behind clean e next a.
-            let same : line ≡ shown = (one_cut 10 line f.line behind f.behind clean f.is_line (sym e ∙ f.whole)).0 ∙ sym (is ∙ the_line (drop at text) n f) in
-            never next (subst (λ l. accepts now l next) same a);
-      }
+  pub stops_refused : (text : List ℕ) (start now after : R) (at number n : ℕ) (shown : List ℕ) → Reached text start now at number → at < length text → position is_feed (drop at text) ≡ Some n → shown ≡ take n (drop at text)
+      → ((next : R) → ¬ accepts now shown next) → after ≡ now → StopsBehind text start number after
+  stops_refused text start now after at number n shown r some found is never same =
+      let f = first 10 (drop at text) n found in (
+        record {
+          lines = r.lines;
+          rest = drop at text;
+          reached = now;
+          whole = split_at text at _ r.front;
+          each = r.each;
+          runs = r.runs;
+          counted = r.counted;
+          more = some_left text at some;
+          refused = λ line behind clean e next a.
+              let here : line ≡ shown = (one_cut 10 line f.line behind f.behind clean f.is_line (sym e ∙ f.whole)).0 ∙ sym (is ∙ the_line (drop at text) n f) in
+              never next (subst (λ l. accepts now l next) here a);
+        },
+        same,
+      )
 
   take_more : (line behind : List ℕ) → take (length line + 1) (line ++ 10 ∷ behind) ≡ line ++ 10 ∷ []
   take_more line behind = rw add-one (go line)

@@ -1,10 +1,10 @@
 -- Odd places of a tale are the origin's, even ones the recipient's.
 use Rattle.std.proofs.Common.{◌≡◌, ◌+◌, Bool, true, List, [], ◌∷◌, ◌++◌, length, Some, refl}
 use Rattle.satp_base.specs.declared.message.Kind.{Kind}
-use Rattle.satp_base.specs.Tales.{IsTale, is_role, last_of, maker}
+use Rattle.satp_base.specs.Tales.{IsTale, comes_behind, is_role, last_of, maker}
 use Rattle.satp_base.specs.Chains.{role_at}
 use Rattle.satp_base.proofs.Finite.{all_of, implies, all_of-at, implies-use}
-use Rattle.satp_base.proofs.TaleTable.{all_kinds, tales, comes_behind, in_all_kinds, tale-in, extends-by}
+use Rattle.satp_base.proofs.TaleTable.{all_kinds, tales, in_all_kinds, tale-in, extends-by}
 use Rattle.satp_base.proofs.RoleLemmas.{makes-is}
 
 abbrev placed : List Kind → Kind → Bool

@@ -1,21 +1,20 @@
 -- What the tables of both roles give at all, and what the rule allows, record by record.
-use Rattle.std.proofs.Common.{◌≡◌, Bool, true, false, List, [], ◌∷◌, ◌++◌, Option, Some, None, refl, sym, ap, subst, ◌∙◌, ◌⊎◌, inl, inr, if◌then◌else◌}
+use Rattle.std.proofs.Common.{◌≡◌, Bool, true, false, List, [], ◌∷◌, Option, Some, refl, ap, ◌∙◌, ◌⊎◌, inl, inr, if◌then◌else◌}
 use Rattle.satp_base.specs.declared.message.Kind.{Kind}
 use Rattle.satp_base.specs.declared.message.Role.{Role}
 use Rattle.satp_base.specs.declared.message.Role.TheVariants.{Origin, Recipient}
-use Rattle.satp_base.specs.declared.message.Terms.{Terms}
 use Rattle.satp_base.specs.declared.ledger.LedgerOp.{LedgerOp}
-use Rattle.satp_base.specs.declared.ledger.LedgerOp.TheVariants.{Lock, Burn, Mint, Assign, Release}
+use Rattle.satp_base.specs.declared.ledger.LedgerOp.TheVariants.{Lock, Mint}
 use Rattle.satp_base.specs.declared.ledger.Answer.{Answer}
 use Rattle.satp_base.specs.declared.ledger.Answer.TheVariants as answer
 use Rattle.satp_base.specs.declared.record.Cause.{Cause}
-use Rattle.satp_base.specs.declared.record.Cause.TheVariants.{Aborted, LockRefused, Rejected, Rescued, UnknownAsset, MintCapped, LedgerTaken}
+use Rattle.satp_base.specs.declared.record.Cause.TheVariants.{LockRefused, UnknownAsset, MintCapped, LedgerTaken}
 use Rattle.satp_base.specs.declared.record.Way.{Way}
-use Rattle.satp_base.specs.declared.record.Way.TheVariants.{Commit, Back}
+use Rattle.satp_base.specs.declared.record.Way.TheVariants.{Back}
 use Rattle.satp_base.specs.declared.record.Rec.{Rec}
-use Rattle.satp_base.specs.declared.record.Rec.TheVariants.{Began, Took, Made, Did, Chose, Rescue}
+use Rattle.satp_base.specs.declared.record.Rec.TheVariants.{Did, Chose}
 use Rattle.satp_base.specs.declared.record.Next.{Next}
-use Rattle.satp_base.specs.declared.record.Next.TheVariants.{Append, Act, Wait, Ended}
+use Rattle.satp_base.specs.declared.record.Next.TheVariants.{Wait}
 use Rattle.satp_base.specs.declared.view.View.{View}
 use Rattle.satp_base.specs.Tales.{maker, makes, is_role}
 use Rattle.satp_base.specs.Roles.{Line, first_line, origin_table, recipient_table, next_of, After}

@@ -1,12 +1,14 @@
 -- The rule of ledgers by cases, and the same as a function.
-use Rattle.std.proofs.Common.{◌≡◌, ◌≢◌, ◌⊎◌, inl, inr, ℕ, ◌+◌, ◌<◌, ◌≤◌, nat_le, Bool, true, false, cond, Option, Some, None, refl, ap, subst, sym, ◌∙◌, arith}
-use Rattle.std.proofs.lemmas.Bool.{le-leb, leb-true, lt-leb, leb-false}
-use Rattle.satp_base.specs.LedgerRule.{Allows, IsOutOfOrder, LedgerRule, Operation, RuleOn, entry_of, is_always_answered, leads, lock_on, mint_on, moved, moves, operation, operation_on, result_of, stays}
-use Rattle.satp_base.specs.Money.{Book, cap_of, free_of, total_of}
+use Rattle.std.proofs.Common.{◌≡◌, ◌≢◌, inl, inr, ℕ, ◌+◌, ◌<◌, ◌≤◌, true, false, cond, Option, Some, None, refl, ap, subst, sym, ◌∙◌}
+use Rattle.std.proofs.lemmas.Bool.{le-leb, lt-leb}
+use Rattle.satp_base.specs.Acts.{MayAnswer, MayRefuse}
+use Rattle.satp_base.specs.LedgerRule.{Allows, IsOutOfOrder, LedgerRule, Operation, RuleOn, entry_of, leads, lock_on, mint_on, moved, moves, operation, operation_on, result_of, stays}
+use Rattle.satp_base.specs.Money.{Book, cap_of, total_of}
+use Rattle.satp_base.specs.declared.ledger.ActFault.TheVariants.{OutOfOrder}
 use Rattle.satp_base.specs.declared.ledger.Answer.{Answer}
 use Rattle.satp_base.specs.declared.ledger.Answer.TheVariants.{Done, NoFunds, UnknownAsset, Capped, Taken}
 use Rattle.satp_base.specs.declared.ledger.Entry.{Entry}
-use Rattle.satp_base.specs.declared.ledger.Entry.TheVariants.{Absent, Locked, Burnt, Minted, Assigned, Released}
+use Rattle.satp_base.specs.declared.ledger.Entry.TheVariants.{Absent, Locked, Minted}
 use Rattle.satp_base.specs.declared.ledger.LedgerOp.{LedgerOp}
 use Rattle.satp_base.specs.declared.ledger.LedgerOp.TheVariants.{Lock, Burn, Mint, Assign, Release}
 use Rattle.satp_base.specs.declared.message.Terms.{Terms}
@@ -92,3 +94,20 @@ rule_on b entry op s t a new h = absurd h
 pub rule-gives : (b : Book) (op : LedgerOp) (s : SessionId) (t : Terms) (a : Answer) (new : Book) → LedgerRule b op s t a new → Gives (operation b op s t) a new
 unfolding operation
 rule-gives b op s t a new h = rule_on b (entry_of b.entries s) op s t a new h
+
+-- ---- what an operation may answer
+
+answer_may : (b : Book) (entry : Entry) (op : LedgerOp) (s : SessionId) (t : Terms) (a : Answer) (new : Book) → RuleOn b entry op s t a new → MayAnswer op a
+answer_may b entry op s t Done new h = tt
+answer_may b entry Lock s t (Taken shown) new h = tt
+answer_may b entry Lock s t (NoFunds free) new h = tt
+answer_may b entry Mint s t (Taken shown) new h = tt
+answer_may b entry Mint s t UnknownAsset new h = tt
+answer_may b entry Mint s t (Capped total) new h = tt
+answer_may b entry op s t a new h = absurd h
+
+pub rule-may : (b : Book) (op : LedgerOp) (s : SessionId) (t : Terms) (a : Answer) (new : Book) → LedgerRule b op s t a new → MayAnswer op a
+rule-may b op s t a new h = answer_may b (entry_of b.entries s) op s t a new h
+
+pub order-may : (b : Book) (op : LedgerOp) (s : SessionId) (entry : Entry) → IsOutOfOrder b op s entry → MayRefuse op (OutOfOrder entry)
+order-may b op s entry h = (h.bound, h.other, h.no_line)

@@ -15,7 +15,7 @@ use Rattle.satp_base.specs.declared.ledger.Answer.TheVariants.{NoFunds, Capped}
 use Rattle.satp_base.specs.declared.message.Terms.{Terms}
 use Rattle.satp_base.specs.declared.session.SessionId.{SessionId}
 use Rattle.satp_base.specs.Acts.{operation_events}
-use Rattle.satp_base.specs.Calls.{Told, asked, made}
+use Rattle.satp_base.specs.Calls.{Told}
 use Rattle.satp_base.specs.Format.{records, IsClosed}
 use Rattle.satp_base.specs.LedgerAt.{entries_after, ledger_at}
 use Rattle.satp_base.specs.LedgerRule.{Operation, operation, operation_on, mint_on, moves, stays, entry_of}
@@ -84,9 +84,6 @@ ledger_more : (t : Trail) (es : List Event) → ledger_at t.entries (t.events ++
 ledger_more t es = fold-append entries_after t.entries t.events es
 
 -- The events of an operation, or of a step without events, leave the areas as they are.
-IsQuiet : List Event → Type 0
-IsQuiet es = (area : Area) (s : Standing) → fold (next area) s es ≡ s
-
 quiet_none : (n : ℕ) → let none : List Event = [] in (area : Area) (s : Standing) → fold (next area) s (take n none) ≡ s
 quiet_none zero area s = refl
 quiet_none (suc n) area s = refl

@@ -1,11 +1,11 @@
 -- The tales as a list, and how each goes on.
-use Rattle.std.proofs.Common.{◌≡◌, ℕ, zero, suc, ◌+◌, ◌*◌, ◌<◌, ◌≤◌, ◌==◌, nat_le, Bool, true, false, List, [], ◌∷◌, ◌++◌, take, length, Option, Some, None, refl, sym, ap, subst, ◌∙◌, arith, ◌⊎◌, inl, inr}
+use Rattle.std.proofs.Common.{◌≡◌, ℕ, zero, suc, ◌+◌, ◌*◌, ◌<◌, ◌≤◌, nat_le, Bool, true, false, List, [], ◌∷◌, ◌++◌, take, length, refl, sym, subst, ◌∙◌, arith, inl, inr}
 use Rattle.std.proofs.lemmas.Bool.Decides.{nat_tests}
 use Rattle.satp_base.specs.declared.message.Kind.{Kind}
 use Rattle.satp_base.specs.declared.message.Kind.TheVariants.{TransferProposal, ProposalReceipt, TransferCommence, CommenceAck, LockAssert, LockReceipt, CommitPrepare, CommitReady, CommitFinal, CommitFinalAck, TransferComplete, Reject, Rollback, RollbackAck, Recover, RecoverUpdate, RecoverSuccess}
-use Rattle.satp_base.specs.Tales.{IsTale, eleven, kind_eq, last_of, follows}
+use Rattle.satp_base.specs.Tales.{IsTale, comes_behind, eleven, kind_eq, last_of}
 use Rattle.satp_base.specs.Tales.IsTale.{Onward, Rolling, Rejecting}
-use Rattle.satp_base.proofs.Finite.{andthen, orelse, same_bool, all_of, any_of, bind, keep, In, andthen-left, andthen-right, andthen-make, same_bool-is, all_of-at, any_of-make, any_of-in, In-append_left, In-append_right, In-append, In-bind, from_bind, one_is}
+use Rattle.satp_base.proofs.Finite.{andthen, same_bool, all_of, any_of, bind, In, andthen-left, andthen-right, andthen-make, same_bool-is, all_of-at, any_of-in, In-append, from_bind, one_is}
 use Rattle.satp_base.proofs.Finite.In.{here, there}
 
 abbrev pub all_kinds : List Kind
@@ -97,9 +97,6 @@ in_all_kinds k = found k (all-found k)
 is_tale-in : (t : List Kind) → is_tale t ≡ true → In t tales
 is_tale-in t h = let (u, i, e) = any_of-in (tale_eq t) tales h in subst (λ v. In v tales) (sym (tale_eq-is t u e)) i
 
-in-is_tale : (t : List Kind) → In t tales → is_tale t ≡ true
-in-is_tale t i = any_of-make (tale_eq t) i (tale_eq-refl t)
-
 onward : (n : ℕ) → n ≤ 11 → is_tale (take n eleven) ≡ true
 onward zero h = refl
 onward (suc zero) h = refl
@@ -168,10 +165,6 @@ tale-is t here = Onward 0 (le-of 0 11 refl)
 tale-is t (there i) = begun-is t i
 
 -- ---- which kinds a tale goes on by
-
-abbrev pub comes_behind : Option Kind → Kind → Bool
-comes_behind None k = kind_eq k TransferProposal
-comes_behind (Some j) k = follows j k
 
 goes_on : all_of (λ t. all_of (λ k. same_bool (comes_behind (last_of t) k) (is_tale (t ++ k ∷ []))) all_kinds) tales ≡ true
 goes_on = refl

@@ -1,9 +1,9 @@
 -- What a call on a ledger answers, and what it leaves of what the ledger tells.
-use Rattle.std.specs.Prelude.{◌≡◌, ◌⊎◌, if◌then◌else◌, List, [], ◌∷◌, Option, Some, None, IfSome, OnSome, Result, Ok, Err, option_map}
+use Rattle.std.specs.Prelude.{◌≡◌, ◌≢◌, ◌⊎◌, false, if◌then◌else◌, List, [], ◌∷◌, Option, Some, None, IfSome, OnSome, Result, Ok, Err, option_map}
 use Rattle.std.specs.FinMap as map
 use Rattle.satp_base.specs.Calls.{Told, asked, made}
 use Rattle.satp_base.specs.Founding.{Founding}
-use Rattle.satp_base.specs.LedgerRule.{IsOutOfOrder, LedgerRule, Operation, operation}
+use Rattle.satp_base.specs.LedgerRule.{IsOutOfOrder, LedgerRule, Operation, is_always_answered, leads, operation, result_of}
 use Rattle.satp_base.specs.Money.{Book}
 use Rattle.satp_base.specs.declared.area.Event.{Event}
 use Rattle.satp_base.specs.declared.area.Event.TheVariants.{Acted, Founded}
@@ -15,7 +15,7 @@ use Rattle.satp_base.specs.declared.ledger.CoreFault.{CoreFault}
 use Rattle.satp_base.specs.declared.ledger.CoreFault.TheVariants as core
 use Rattle.satp_base.specs.declared.ledger.LedgerCall.{LedgerCall}
 use Rattle.satp_base.specs.declared.ledger.LedgerOp.{LedgerOp}
-use Rattle.satp_base.specs.declared.ledger.LedgerOp.TheVariants.{Lock, Burn, Mint, Assign, Release}
+use Rattle.satp_base.specs.declared.ledger.LedgerOp.TheVariants.{Lock, Mint}
 use Rattle.satp_base.specs.declared.message.Terms.{Terms}
 use Rattle.satp_base.specs.declared.session.SessionId.{SessionId}
 
@@ -28,6 +28,12 @@ MayAnswer Mint UnknownAsset = Unit {0}
 MayAnswer Mint (Capped total) = Unit {0}
 MayAnswer Mint (Taken entry) = Unit {0}
 MayAnswer _ _ = ⊥
+
+-- The faults that an operation may have at any ledger. It is out of order only over an entry that it neither moves nor leaves behind, and a lock and
+-- a mint never are.
+abbrev pub MayRefuse : LedgerOp → ActFault → Type 0
+MayRefuse op act.Failed = Unit {0}
+MayRefuse op (act.OutOfOrder entry) = (is_always_answered op ≡ false) × (entry ≢ result_of op) × (leads op entry ≡ false)
 
 -- the event of an operation: one where it changes an entry
 abbrev pub operation_events : Operation → LedgerOp → SessionId → Terms → List Event

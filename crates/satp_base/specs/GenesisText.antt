@@ -1,8 +1,7 @@
 -- The lines of a genesis: fields parted by one space.
-use Rattle.std.specs.Prelude.{◌≡◌, ◌⊎◌, ℕ, List, [], ◌∷◌, ◌++◌, codes}
+use Rattle.std.specs.Prelude.{◌≡◌, ℕ, List, [], ◌∷◌, ◌++◌, codes}
 use Rattle.satp_base.specs.Founding.{Founding}
 use Rattle.satp_base.specs.Genesis.{AddsAsset, AddsHold}
-use Rattle.satp_base.specs.Lines.{Fails, IsLines}
 use Rattle.satp_base.specs.Values.{amount_text, name_text}
 use Rattle.satp_base.specs.declared.amount.Amount.{Amount}
 use Rattle.satp_base.specs.declared.name.Name.{Name}

@@ -1,5 +1,5 @@
 -- Texts of lines, each ended by a line feed.
-use Rattle.std.specs.Prelude.{◌≡◌, ◌≢◌, ℕ, ◌+◌, ◌<◌, ◌≤◌, ◌==◌, Bool, true, not, List, [], ◌∷◌, ◌++◌, length, take}
+use Rattle.std.specs.Prelude.{◌≡◌, ◌≢◌, ℕ, ◌+◌, ◌<◌, ◌≤◌, ◌==◌, Bool, true, not, List, [], ◌∷◌, ◌++◌, length}
 use Rattle.std.specs.List.{list_all}
 use Rattle.satp_base.specs.declared.lines.LinesFault.{LinesFault}
 use Rattle.satp_base.specs.declared.lines.LinesFault.TheVariants.{Long, Line, Memory}
@@ -51,3 +51,17 @@ module _ {R : Type 0} (accepts : R → List ℕ → R → Type 0) where
   Fails most text start (Long n) = (n ≡ length text) × (most < length text)
   Fails most text start (Line number) = (length text ≤ most) × StopsAt text start number
   Fails most text start Memory = Unit {0}
+
+  -- what the first lines give that are accepted
+  pub record Front (text : List ℕ) (start after : R) : Type 0 where
+    pub lines : List (List ℕ)
+    pub rest : List ℕ
+    pub whole : text ≡ lines_text lines ++ rest
+    pub each : are_lines lines ≡ true
+    pub runs : Runs start lines after
+
+  -- what is there behind a fault
+  abbrev pub Leaves : List ℕ → R → LinesFault → R → Type 0
+  Leaves text start (Long n) after = after ≡ start
+  Leaves text start (Line number) after = (stop : StopsAt text start number) × (after ≡ stop.reached)
+  Leaves text start Memory after = Front text start after

@@ -5,7 +5,7 @@ use Rattle.std.specs.FinMap as map
 use Rattle.satp_base.specs.Founding.{Founding, cap_among, counted, equal_names, held_among}
 use Rattle.satp_base.specs.Ledgers.{Entries}
 use Rattle.satp_base.specs.declared.ledger.Entry.{Entry}
-use Rattle.satp_base.specs.declared.ledger.Entry.TheVariants.{Absent, Locked, Burnt, Minted, Assigned, Released}
+use Rattle.satp_base.specs.declared.ledger.Entry.TheVariants.{Locked, Burnt, Minted, Assigned}
 use Rattle.satp_base.specs.declared.ledger.LedgerEntry.{LedgerEntry}
 use Rattle.satp_base.specs.declared.name.Name.{Name}
 

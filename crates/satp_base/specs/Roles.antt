@@ -1,11 +1,9 @@
 -- What each side does next, and which record may come.
 use Rattle.std.specs.Prelude.{◌≡◌, Bool, true, false, IsTrue, IsFalse, List, [], ◌∷◌, ◌++◌, Option, Some, None, if◌then◌else◌}
-use Rattle.satp_base.specs.declared.message.Kind.{Kind}
 use Rattle.satp_base.specs.declared.message.Kind.TheVariants.{TransferProposal, ProposalReceipt, TransferCommence, CommenceAck, LockAssert, LockReceipt, CommitPrepare, CommitReady, CommitFinal, CommitFinalAck, TransferComplete, Reject, Rollback, RollbackAck}
 use Rattle.satp_base.specs.declared.message.Role.{Role}
 use Rattle.satp_base.specs.declared.message.Role.TheVariants.{Origin, Recipient}
-use Rattle.satp_base.specs.declared.message.Reason.{Reason}
-use Rattle.satp_base.specs.declared.message.Reason.TheVariants as reason
+use Rattle.satp_base.specs.declared.message.Terms.{Terms}
 use Rattle.satp_base.specs.declared.ledger.LedgerOp.{LedgerOp}
 use Rattle.satp_base.specs.declared.ledger.LedgerOp.TheVariants.{Lock, Burn, Mint, Assign, Release}
 use Rattle.satp_base.specs.declared.ledger.Answer.{Answer}
@@ -15,12 +13,12 @@ use Rattle.satp_base.specs.declared.record.Cause.TheVariants.{Aborted, LockRefus
 use Rattle.satp_base.specs.declared.record.Way.{Way}
 use Rattle.satp_base.specs.declared.record.Way.TheVariants.{Commit, Back}
 use Rattle.satp_base.specs.declared.record.Rec.{Rec}
-use Rattle.satp_base.specs.declared.record.Rec.TheVariants.{Began, Took, Made, Did, Chose, Rescue}
+use Rattle.satp_base.specs.declared.record.Rec.TheVariants.{Took, Made, Did, Chose, Rescue}
 use Rattle.satp_base.specs.declared.record.Next.{Next}
 use Rattle.satp_base.specs.declared.record.Next.TheVariants.{Append, Act, Wait, Ended}
 use Rattle.satp_base.specs.declared.view.View.{View}
 use Rattle.satp_base.specs.Tales.{IsTale, has, last_is, last_by, is_whole, maker, other}
-use Rattle.satp_base.specs.Views.{push}
+use Rattle.satp_base.specs.Views.{KeepsTale, begin, push, view_from}
 
 abbrev pub both : Bool → Bool → Bool
 both true b = b
@@ -49,6 +47,10 @@ abbrev pub is_back : Option Way → Bool
 is_back None = false
 is_back (Some Commit) = false
 is_back (Some (Back cause)) = true
+
+-- the session is on its way back already
+abbrev pub is_turned : View → Bool
+is_turned v = either (is_back v.way) (has Rollback v.tale)
 
 abbrev pub is_abort : Cause → Bool
 is_abort Aborted = true
@@ -124,17 +126,7 @@ next_of Recipient v = first_line (recipient_table v)
 
 -- ---- after an operation
 
--- the answers that a ledger gives to an operation
-abbrev pub Gives : LedgerOp → Answer → Type 0
-Gives op answer.Done = Unit {0}
-Gives Lock (answer.NoFunds free) = Unit {0}
-Gives Lock (answer.Taken entry) = Unit {0}
-Gives Mint answer.UnknownAsset = Unit {0}
-Gives Mint (answer.Capped total) = Unit {0}
-Gives Mint (answer.Taken entry) = Unit {0}
-Gives _ _ = ⊥
-
--- the record behind such an answer
+-- the record behind an answer that the operation may have
 abbrev pub After : LedgerOp → Answer → Rec → Type 0
 After op answer.Done r = r ≡ Did op
 After Lock (answer.NoFunds free) r = r ≡ Chose (Back LockRefused)
@@ -143,16 +135,6 @@ After Mint answer.UnknownAsset r = r ≡ Chose (Back UnknownAsset)
 After Mint (answer.Capped total) r = r ≡ Chose (Back MintCapped)
 After Mint (answer.Taken entry) r = r ≡ Chose (Back LedgerTaken)
 After _ _ r = ⊥
-
--- the reason that a reject carries: the cause of the recipient's decision
-abbrev pub reason_of : Cause → Reason
-reason_of UnknownAsset = reason.UnknownAsset
-reason_of MintCapped = reason.MintCapped
-reason_of LedgerTaken = reason.LedgerTaken
-reason_of Aborted = reason.Aborted
-reason_of LockRefused = reason.Aborted
-reason_of Rejected = reason.Aborted
-reason_of Rescued = reason.Aborted
 
 -- ---- which record may come
 
@@ -174,3 +156,10 @@ pub data RoleRule (role : Role) (v : View) (r : Rec) : Type 0 where
 abbrev pub AreAllowed : Role → View → List Rec → Type 0
 AreAllowed role v [] = Unit {0}
 AreAllowed role v (r ∷ rs) = RoleRule role v r × AreAllowed role (push v r) rs
+
+-- Behind any list of allowed records the kinds are a tale, and a further record that is allowed keeps them one.
+abbrev pub LawTales : Role → Type 0
+LawTales role =
+    (terms : Terms) (rs : List Rec) → AreAllowed role (begin role terms) rs
+    → IsTale (view_from (begin role terms) rs).tale
+    × ((r : Rec) → RoleRule role (view_from (begin role terms) rs) r → KeepsTale (view_from (begin role terms) rs).tale r)

@@ -1,5 +1,5 @@
 -- HMAC with SHA-256 (RFC 2104), and the compact JWS that it signs (RFC 7515, section 3.1; HS256 of RFC 7518, section 3.2).
-use Rattle.std.specs.Prelude.{◌≡◌, ℕ, ◌-◌, List, [], ◌∷◌, ◌++◌, map, length, replicate, codes, bit_xor, nat_le, if◌then◌else◌}
+use Rattle.std.specs.Prelude.{◌≡◌, ℕ, ◌-◌, List, ◌∷◌, ◌++◌, map, length, replicate, codes, bit_xor, nat_le, if◌then◌else◌}
 use Rattle.base64.specs.Rfc4648.{encode_symbols}
 use Rattle.base64.specs.GeneralPurpose.{IsBytes}
 use Rattle.sha2.specs.Sha256.{sha256}

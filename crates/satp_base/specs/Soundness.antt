@@ -1,5 +1,5 @@
 -- What holds of every ledger that began with a genesis and went on by the rule.
-use Rattle.std.specs.Prelude.{ℕ, ◌+◌, ◌≤◌, unwrap_or}
+use Rattle.std.specs.Prelude.{◌+◌, ◌≤◌, unwrap_or}
 use Rattle.satp_base.specs.Money.{Book, cap_of, given, given_to_all, held, held_of_all, sum_entries, taken, taken_of_all, total_of}
 use Rattle.satp_base.specs.declared.name.Name.{Name}
 

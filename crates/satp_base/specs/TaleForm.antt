@@ -1,6 +1,6 @@
 -- How a tale's kinds stand in its fields: the first of eleven places hold them, and the rest hold the first kind.
-use Rattle.std.specs.Prelude.{◌≡◌, ℕ, ◌≤◌, ◌-◌, List, ◌++◌, length, take, drop, replicate}
-use Rattle.std.proofs.Common.{arith, ap, subst, sym, ◌∙◌, refl, take-append-drop, length-take-le}
+use Rattle.std.specs.Prelude.{◌≡◌, ◌≤◌, ◌-◌, List, ◌++◌, length, take, drop, replicate}
+use Rattle.std.proofs.Common.{arith, ap, sym, ◌∙◌, take-append-drop, length-take-le}
 use Rattle.satp_base.specs.declared.message.Kind.{Kind}
 use Rattle.satp_base.specs.declared.message.Kind.TheVariants.{TransferProposal}
 use Rattle.satp_base.specs.declared.tale.Tale.TheInside.{Inside}

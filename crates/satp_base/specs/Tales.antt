@@ -1,5 +1,5 @@
 -- The kinds of a chain's messages in their order, and the three forms of a tale.
-use Rattle.std.specs.Prelude.{◌≡◌, ℕ, zero, suc, ◌+◌, ◌*◌, ◌<◌, ◌≤◌, ◌==◌, ◌||◌, Bool, true, false, List, [], ◌∷◌, ◌++◌, take, slice_get, Option, Some, None, if◌then◌else◌}
+use Rattle.std.specs.Prelude.{ℕ, zero, suc, ◌+◌, ◌*◌, ◌<◌, ◌≤◌, ◌==◌, Bool, true, false, List, [], ◌∷◌, ◌++◌, take, slice_get, Option, Some, None, if◌then◌else◌}
 use Rattle.satp_base.specs.declared.message.Kind.{Kind}
 use Rattle.satp_base.specs.declared.message.Kind.TheVariants.{TransferProposal, ProposalReceipt, TransferCommence, CommenceAck, LockAssert, LockReceipt, CommitPrepare, CommitReady, CommitFinal, CommitFinalAck, TransferComplete, Reject, Rollback, RollbackAck, Recover, RecoverUpdate, RecoverSuccess}
 use Rattle.satp_base.specs.declared.message.Role.{Role}
@@ -141,3 +141,8 @@ follows CommitFinalAck TransferComplete = true
 follows Reject Rollback = true
 follows Rollback RollbackAck = true
 follows _ _ = false
+
+-- which kind may come behind the last one, where there is one: a tale begins with the proposal
+abbrev pub comes_behind : Option Kind → Kind → Bool
+comes_behind None k = kind_eq k TransferProposal
+comes_behind (Some j) k = follows j k

@@ -213,9 +213,12 @@ impl Genesis {
     /// At most 16 assets, 256 holdings and 65,536 bytes. The empty text is a genesis without assets.
     /// `Long` comes for more bytes, `Line` for the first line that is refused, an open last line too.
     pub fn read(alloc: Global, text: &[u8]) -> Result<Genesis, GenesisFault>
-        ensures { MatchResult result
+        ensures read { MatchResult result
             (λ genesis. IsLines AcceptsLine most_bytes text.now nothing genesis)
             (λ fault. Fails AcceptsLine most_bytes text.now nothing fault) }
+        ensures complete { (genesis : Founding) → IsLines AcceptsLine most_bytes text.now nothing genesis → MatchResult result
+            (λ found. found ≡ genesis)
+            (λ fault. fault ≡ LinesFault.Memory) }
     {
         let mut genesis = Genesis::new(alloc);
         read_lines(&mut genesis, text, Genesis::BYTES)?;

@@ -25,8 +25,6 @@ mod stream;
 mod tale;
 mod text;
 mod text_laws;
-#[cfg(test)]
-mod value_tests;
 mod view;
 mod wire;
 mod words;

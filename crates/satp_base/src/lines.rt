@@ -1,5 +1,5 @@
-ghost use Rattle.std.specs.Prelude.{◌≡◌, ℕ, ◌+◌, ◌<◌, ◌≤◌, ◌==◌, List, OnOk, Err, MatchResult, IfSome, position, length};
-ghost use Rattle.satp_base.specs.Lines.{Fails, IsLines};
+ghost use Rattle.std.specs.Prelude.{◌≡◌, ℕ, ◌+◌, ◌<◌, ◌≤◌, ◌==◌, List, OnOk, OnErr, Err, IfErr, MatchResult, IfSome, position, length};
+ghost use Rattle.satp_base.specs.Lines.{Fails, IsLines, Leaves};
 
 use thiserror::Error;
 
@@ -30,10 +30,11 @@ pub trait LineReader {
     /// The line, without its line feed, is accepted, and gives this.
     ghost accepts: { Self → List ℕ → Self → Type 0 };
 
-    /// Adds a line.
+    /// Adds a line. After a fault all is as before.
     fn add(&mut self, line: &[u8]) -> Result<(), AddFault>
         ensures ok { OnOk result (accepts self.old line.now self.new) }
-        ensures refused { result ≡ Err AddFault.Refused → (after : Self) → ¬ accepts self.old line.now after };
+        ensures refused { result ≡ Err AddFault.Refused → (after : Self) → ¬ accepts self.old line.now after }
+        ensures err { OnErr result (self.new ≡ self.old) };
 }
 
 /// Where the first line ends.
@@ -45,11 +46,15 @@ fn line_end(text: &[u8]) -> Option<usize>
 }
 
 /// Adds each line of a text, and stops at the first that is refused.
+///
+/// The reader then has what the lines before that one gave, and behind `Long` nothing new. Where no memory
+/// was found it has what some first lines gave.
 pub fn read_lines<R: LineReader>(reader: &mut R, text: &[u8], most: usize) -> Result<(), LinesFault>
     requires { most < 4294967295 }
-    ensures { MatchResult result
+    ensures read { MatchResult result
         (λ done. IsLines R.accepts most text.now reader.old reader.new)
         (λ fault. Fails R.accepts most text.now reader.old fault) }
+    ensures left { IfErr result (λ fault. Leaves R.accepts text.now reader.old fault reader.new) }
 {
     if text.len() > most {
         return Err(LinesFault::Long { length: text.len() });

@@ -5,7 +5,7 @@ ghost use Rattle.satp_base.specs.Money.{Book, free_of, free_sum_of, total_of};
 ghost use Rattle.satp_base.specs.LedgerRule.{entry_of};
 ghost use Rattle.satp_base.specs.LedgerAt.{ledger_at};
 ghost use Rattle.satp_base.specs.Soundness.{IsSound};
-ghost use Rattle.satp_base.specs.Acts.{ActsOn, Applies, Asks, FoundEvents, FoundsBook, MayAdd, MayAnswer, founded};
+ghost use Rattle.satp_base.specs.Acts.{ActsOn, Applies, Asks, FoundEvents, FoundsBook, MayAdd, MayAnswer, MayRefuse, founded};
 ghost use Rattle.satp_base.specs.declared.area.Event.{Event};
 ghost use Rattle.satp_base.specs.declared.area.Event.TheVariants.{Acted};
 ghost use Rattle.satp_base.specs.declared.ledger.LedgerCall.TheVariants.{Found, Raise, Act, Look};
@@ -30,11 +30,12 @@ pub struct SiteFault;
 pub trait Ledger: Device {
     /// Operates on the entry of a session, and answers as the rule of ledgers says.
     ///
-    /// `OutOfOrder` comes exactly where the rule has no answer.
+    /// `OutOfOrder` comes exactly where the rule has no answer, and so never to a lock or a mint.
     /// A failed operation took effect or did not; it takes effect, if at all, before the call ends.
     /// A ledger that tells nothing doesn't begin to tell by an operation.
     fn act(&mut self, op: LedgerOp, session: SessionId, terms: &Terms) -> Result<Answer, ActFault>
         ensures answer { IfOk result (MayAnswer op) }
+        ensures refused { IfErr result (MayRefuse op) }
         ensures told { (events : List Event) × MayAdd (Acted op session terms.now) result events
             × IfSome (Self.book self.old) (λ b. ActsOn op session terms.now b result events (Self.book self.new))
             × Asks (Act op session terms.now) events result (Self.told self.old) (Self.told self.new) }

@@ -1,4 +1,4 @@
-ghost use Rattle.std.specs.Prelude.{◌≡◌, ◌≤◌, ◌<◌, ◌&&◌, ◌==◌, Option, ℕ, Bool, true, false, length, nat_lt, take, option_map, IfOk, OnOk, OnErr};
+ghost use Rattle.std.specs.Prelude.{◌≡◌, ◌≢◌, ◌≤◌, ◌<◌, ◌&&◌, ◌==◌, Option, Some, [], ℕ, Bool, true, false, length, nat_lt, take, option_map, IfOk, OnOk, OnErr};
 ghost use Rattle.satp_base.specs.Streams.{HasCause};
 ghost use Rattle.satp_base.specs.Wires.{Traffic, called, hears, says, MayMiss};
 ghost use Rattle.satp_base.specs.declared.wire.Dial.TheVariants.{Listen, Accept, Connect};
@@ -32,6 +32,9 @@ pub trait Wire {
 
     /// Whether a connection is open, which every wire says.
     ghost is_open: { Self → Bool };
+
+    /// The connection that is open is the last one that it tells.
+    ghost one_open: { (wire : Self) (t : Traffic) → told wire ≡ Some t → is_open wire ≡ true → t.conversations ≢ [] };
 
     /// Begins to listen at an address.
     fn listen(&mut self, at: &Address) -> Result<(), WireFault>

@@ -10,3 +10,4 @@ pub mod OwnData
 pub mod NoFault
 pub mod WrittenText
 pub mod ReadFaults
+pub mod TextFaults

@@ -7,7 +7,7 @@ use Rattle.std.proofs.lemmas.Bool.{and_from, and_parts, le-leb}
 use Rattle.serde_json.specs.Data.{Data}
 use Rattle.serde_json.specs.Find.{as_str, get}
 use Rattle.satp_base.specs.Canonical.{kind_named, kind_of, kind_text, row, terms_row}
-use Rattle.satp_base.specs.Forms.{HasLink, IsBody, IsLink, IsMessage, IsPlace, is_entry, is_plain}
+use Rattle.satp_base.specs.Forms.{HasLink, IsBody, IsLink, IsMessage, IsPlace, is_entry}
 use Rattle.satp_base.specs.Forms as forms
 use Rattle.satp_base.specs.declared.member.MemberName.{MemberName}
 use Rattle.satp_base.specs.declared.member.MemberName.TheVariants as name
@@ -22,11 +22,12 @@ use Rattle.satp_base.specs.declared.message.Body.TheVariants as body
 use Rattle.satp_base.specs.declared.message.Message.{Message}
 use Rattle.satp_base.specs.declared.name.Name.{Name}
 use Rattle.satp_base.specs.declared.session.SessionId.{SessionId}
-use Rattle.satp_base.specs.Faults.{session_fault}
+use Rattle.satp_base.specs.Faults.{or_else, session_fault}
+use Rattle.satp_base.specs.Names.{is_name}
 use Rattle.satp_base.specs.Values.{name_text, session_text}
-use Rattle.satp_base.proofs.Exact.{no_name_fault, session_faultless}
+use Rattle.satp_base.proofs.Exact.{name_holds, session_faultless}
 use Rattle.satp_base.proofs.OneText.{plain_row, same_kind, same_reason}
-use Rattle.satp_canon.specs.FirstFault.{are_entries, data_fault, fault_unless, first_of, form_fault, holds_text, is_name, is_within, item_list, kind_fault, member_fault, terms_fault, value_faults, values_fault}
+use Rattle.satp_canon.specs.FirstFault.{are_entries, data_fault, fault_unless, first_of, form_fault, holds_text, is_within, item_list, kind_fault, member_fault, terms_fault, value_faults, values_fault}
 use Rattle.satp_canon.specs.declared.fault.CanonFault.{CanonFault}
 use Rattle.satp_canon.specs.declared.fault.CanonFault.TheVariants as fault
 use Rattle.satp_canon.specs.Reads.{word_items}
@@ -40,7 +41,7 @@ kind_ok : (k : Kind) → is_some (kind_named (kind_text k)) ≡ true
 kind_ok k = ap is_some (same_kind k)
 
 name_ok : (n : Name) → is_name (name_text n) ≡ true
-name_ok n = ap is_none (no_name_fault n)
+name_ok n = (name_holds n).form
 
 session_ok : (s : SessionId) → is_none (session_fault (session_text s)) ≡ true
 session_ok s = ap is_none (session_faultless s)
@@ -78,9 +79,6 @@ values_fine : (d : Data) (ns : List MemberName) → AllByRecursion (λ n. None �
 values_fine d [] h = refl
 values_fine d (n ∷ ns) h = values_fine d ns h.1 ∙ sym (behind (value_faults d n) (flat_map (value_faults d) ns) h.0)
 
-terms_members : (f : MemberName → Data) → None ≡ member_fault terms_row (object_of f terms_row)
-terms_members f = refl
-
 row_members : (k : Kind) (f : MemberName → Data) → None ≡ member_fault (row k) (object_of f (row k))
 row_members TransferProposal f = refl
 row_members Reject f = refl
@@ -92,7 +90,7 @@ row_members _ f = refl
 terms_fine : (t : Terms) → None ≡ terms_fault (object_of (term_data t) terms_row)
 terms_fine t =
     let d = object_of (term_data t) terms_row in
-    ap (λ (o : Option CanonFault). first_of (o ∷ [])) (forms_fine d terms_row (
+    forms_fine d terms_row (
       good (is_within 1 _ t.amount.number) name.Amount (and_from _ _ (le-leb 1 t.amount.number t.amount.low) (le-leb t.amount.number _ t.amount.high)),
       (
         good (is_name (name_text t.asset)) name.Asset (name_ok t.asset),
@@ -101,7 +99,7 @@ terms_fine t =
           (good (is_name (name_text t.originator)) name.Originator (name_ok t.originator), tt),
         ),
       ),
-    ))
+    )
 
 -- ---- each kind
 
@@ -185,5 +183,5 @@ own_fine m h =
     let d = own_data m in
     sym (ap (λ (o : Option Data). option_map_or (λ v. kind_fault d (option_and_then kind_named (as_str v))) o (Some (fault.Member name.Kind))) (kind_got k (own_value m))
     ∙ ap (kind_fault d) (same_kind k)
-    ∙ sym (ap (λ (o : Option CanonFault). first_of (o ∷ values_fault (row k) d ∷ [])) (row_members k (own_value m)))
-    ∙ sym (ap (λ (o : Option CanonFault). first_of (o ∷ [])) (body_fine m.session m.sender m.receiver m.body h.0 h.1)))
+    ∙ sym (ap (λ (o : Option CanonFault). or_else o (values_fault (row k) d)) (row_members k (own_value m)))
+    ∙ sym (body_fine m.session m.sender m.receiver m.body h.0 h.1))

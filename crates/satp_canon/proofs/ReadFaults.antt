@@ -10,11 +10,12 @@ use Rattle.std.proofs.lemmas.Bool.{and_from, and_parts}
 use Rattle.serde_json.specs.Data.{Data}
 use Rattle.serde_json.specs.Read.{read}
 use Rattle.satp_base.specs.Canonical.{IsText, canonical}
+use Rattle.satp_base.specs.Faults.{or_else}
 use Rattle.satp_base.specs.Forms.{IsMessage}
 use Rattle.satp_base.specs.declared.message.Message.{Message}
 use Rattle.satp_base.proofs.AsciiText.{IsAscii, ascii_text}
 use Rattle.satp_base.proofs.OneText.{one_text}
-use Rattle.satp_canon.specs.FirstFault.{common, data_fault, first_fault, first_of, json_fault, json_of, longest, text_fault, written}
+use Rattle.satp_canon.specs.FirstFault.{common, data_fault, first_fault, json_fault, json_of, longest, text_fault, written}
 use Rattle.satp_canon.specs.Reads.{Reads}
 use Rattle.satp_canon.specs.declared.fault.CanonFault.{CanonFault}
 use Rattle.satp_canon.specs.declared.fault.CanonFault.TheVariants.{Long, NotCanonical, NotJson, Memory}
@@ -37,32 +38,32 @@ none_read text false e h = refl
 pub not_json : (text : List ℕ) → length text ≤ longest → (IsUtf8 text → read text ≡ None) → first_fault text ≡ Some NotJson
 not_json text short h = short_fault text short ∙ ap (json_fault text) (none_read text (is_utf8 text) refl h)
 
-pub value_fault : (text : List ℕ) (d : Data) → length text ≤ longest → IsUtf8 text → read text ≡ Some d → first_fault text ≡ first_of (data_fault d ∷ text_fault text (written d) ∷ [])
+pub value_fault : (text : List ℕ) (d : Data) → length text ≤ longest → IsUtf8 text → read text ≡ Some d → first_fault text ≡ or_else (data_fault d) (text_fault text (written d))
 value_fault text d short utf8 e = short_fault text short ∙ ap (json_fault text) (ap (λ (b : Bool). cond b (read text) None) (is_utf8-from_IsUtf8 text utf8) ∙ e)
 
 same_text : (text other : List ℕ) → text ≡ other → text_fault text other ≡ None
 same_text text other e = ap (λ (b : Bool). cond b None (Some (NotCanonical (common text other)))) ((bytes_eq-Decides text other).1 e)
 
 -- where the values have no fault, the text's is the first
-text_first : (text : List ℕ) (d : Data) (m : Message) → length text ≤ longest → IsUtf8 text → read text ≡ Some d → None ≡ data_fault d → written d ≡ canonical m → first_fault text ≡ first_of (text_fault text (canonical m) ∷ [])
+text_first : (text : List ℕ) (d : Data) (m : Message) → length text ≤ longest → IsUtf8 text → read text ≡ Some d → None ≡ data_fault d → written d ≡ canonical m → first_fault text ≡ text_fault text (canonical m)
 text_first text d m short utf8 e fine is =
     value_fault text d short utf8 e
-    ∙ sym (ap (λ (o : Option CanonFault). first_of (o ∷ text_fault text (written d) ∷ [])) fine)
-    ∙ ap (λ (t : List ℕ). first_of (text_fault text t ∷ [])) is
+    ∙ sym (ap (λ (o : Option CanonFault). or_else o (text_fault text (written d))) fine)
+    ∙ ap (text_fault text) is
 
 pub compared_fault : (r : Result Message CanonFault) (text : List ℕ) (d : Data) (m : Message) → length text ≤ longest → IsUtf8 text → read text ≡ Some d → None ≡ data_fault d → IsMessage m → Reads m d
     → IfOk r (λ x. (x ≡ m) × IsText x text) → IfErr r (λ f. (f ≡ Memory) ⊎ (Some f ≡ text_fault text (canonical m)))
     → MatchResult r (λ x. first_fault text ≡ None) (λ f. (f ≡ Memory) ⊎ (first_fault text ≡ Some f))
 compared_fault (Ok x) text d m short utf8 e fine good reads ok err =
     text_first text d m short utf8 e fine (written_is m d good reads)
-    ∙ ap (λ (o : Option CanonFault). first_of (o ∷ [])) (same_text text (canonical m) (ok.1 ∙ ap canonical ok.0))
+    ∙ same_text text (canonical m) (ok.1 ∙ ap canonical ok.0)
 compared_fault (Err f) text d m short utf8 e fine good reads ok (inl memory) = inl memory
 compared_fault (Err f) text d m short utf8 e fine good reads ok (inr is) =
-    inr (text_first text d m short utf8 e fine (written_is m d good reads) ∙ sym (ap (λ (o : Option CanonFault). first_of (o ∷ [])) is))
+    inr (text_first text d m short utf8 e fine (written_is m d good reads) ∙ sym is)
 
 pub values_first : (text : List ℕ) (d : Data) (f : CanonFault) → length text ≤ longest → IsUtf8 text → read text ≡ Some d → (f ≡ Memory) ⊎ (Some f ≡ data_fault d) → (f ≡ Memory) ⊎ (first_fault text ≡ Some f)
 values_first text d f short utf8 e (inl memory) = inl memory
-values_first text d f short utf8 e (inr is) = inr (value_fault text d short utf8 e ∙ sym (ap (λ (o : Option CanonFault). first_of (o ∷ text_fault text (written d) ∷ [])) is))
+values_first text d f short utf8 e (inr is) = inr (value_fault text d short utf8 e ∙ sym (ap (λ (o : Option CanonFault). or_else o (text_fault text (written d))) is))
 
 -- ---- canonical texts have no fault
 
@@ -76,7 +77,7 @@ text_utf8 m h = IsUtf8-are_ascii (canonical m) (as_list (canonical m) (ascii_tex
 no_fault : (m : Message) → IsMessage m → length (canonical m) ≤ longest → first_fault (canonical m) ≡ None
 no_fault m h short =
     text_first (canonical m) (own_data m) m short (text_utf8 m h) (own_read m h) (own_fine m h) (own_written m h)
-    ∙ ap (λ (o : Option CanonFault). first_of (o ∷ [])) (same_text (canonical m) (canonical m) refl)
+    ∙ same_text (canonical m) (canonical m) refl
 
 pub text_fine : (m : Message) (text : List ℕ) → IsMessage m → IsText m text → length text ≤ longest → first_fault text ≡ None
 text_fine m text h is short = ap first_fault is ∙ no_fault m h (subst (λ (t : List ℕ). length t ≤ longest) is short)

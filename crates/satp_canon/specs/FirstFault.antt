@@ -14,8 +14,9 @@ use Rattle.serde_json.specs.Read.{read}
 use Rattle.serde_json.specs.Written.{compact_text}
 use Rattle.satp_base.specs.Canonical as canon
 use Rattle.satp_base.specs.Canonical.{kind_named, member_named, member_text, reason_named, row, terms_row}
-use Rattle.satp_base.specs.Faults.{name_fault, session_fault}
+use Rattle.satp_base.specs.Faults.{or_else, session_fault}
 use Rattle.satp_base.specs.Forms.{is_entry}
+use Rattle.satp_base.specs.Names.{is_name}
 use Rattle.satp_base.specs.Numbers.{greatest_amount}
 use Rattle.satp_base.specs.declared.member.MemberName.{MemberName}
 use Rattle.satp_base.specs.declared.member.MemberName.TheVariants as name
@@ -27,8 +28,7 @@ use Rattle.satp_canon.specs.declared.fault.CanonFault.TheVariants as fault
 
 abbrev pub first_of : List (Option CanonFault) → Option CanonFault
 first_of [] = None
-first_of (None ∷ others) = first_of others
-first_of (Some f ∷ others) = Some f
+first_of (o ∷ others) = or_else o (first_of others)
 
 -- ---- names of members
 
@@ -97,9 +97,6 @@ are_entries ds = nat_le (length ds) 2 && list_all (λ d. holds_text is_entry (So
 abbrev pub holds_entries : Option Data → Bool
 holds_entries found = option_map_or (λ ds. are_entries (item_list ds)) (option_and_then as_array found) false
 
-abbrev pub is_name : List ℕ → Bool
-is_name text = is_none (name_fault text)
-
 -- what stands at this name has the type and form that the name wants; what stands in terms is tested apart
 abbrev pub has_form : MemberName → Option Data → Bool
 has_form name.Amount found = holds_number (is_within 1 greatest_amount) found
@@ -128,7 +125,7 @@ form_fault d n = fault_unless (has_form n (get (member_text n) d)) n
 
 -- the names in the terms are tested, and then their values
 abbrev pub terms_fault : Data → Option CanonFault
-terms_fault d = first_of (member_fault terms_row d ∷ first_of (map (form_fault d) terms_row) ∷ [])
+terms_fault d = or_else (member_fault terms_row d) (first_of (map (form_fault d) terms_row))
 
 abbrev pub value_faults : Data → MemberName → List (Option CanonFault)
 value_faults d name.Terms = form_fault d name.Terms ∷ option_and_then terms_fault (get (codes "terms") d) ∷ []
@@ -142,7 +139,7 @@ values_fault names d = first_of (flat_map (value_faults d) names)
 -- the names of the kind's members, and then their values
 abbrev pub kind_fault : Data → Option Kind → Option CanonFault
 kind_fault d None = Some (fault.Value name.Kind)
-kind_fault d (Some k) = first_of (member_fault (row k) d ∷ values_fault (row k) d ∷ [])
+kind_fault d (Some k) = or_else (member_fault (row k) d) (values_fault (row k) d)
 
 -- a value that is no object has no member `kind`
 abbrev pub data_fault : Data → Option CanonFault
@@ -180,7 +177,7 @@ text_fault text other = if bytes_eq text other then None else Some (fault.NotCan
 
 abbrev pub json_fault : List ℕ → Option Data → Option CanonFault
 json_fault text None = Some fault.NotJson
-json_fault text (Some d) = first_of (data_fault d ∷ text_fault text (written d) ∷ [])
+json_fault text (Some d) = or_else (data_fault d) (text_fault text (written d))
 
 -- the value that the bytes are, where they are UTF-8
 abbrev pub json_of : List ℕ → Option Data

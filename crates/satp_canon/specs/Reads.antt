@@ -7,7 +7,7 @@ use Rattle.serde_json.specs.Find.{as_object, as_str, get}
 use Rattle.satp_base.specs.Canonical.{Scalar, number, word, Value, scalar, words, fields, canonical, kind_of, member_text, row, value}
 use Rattle.satp_base.specs.Forms.{IsMessage}
 use Rattle.satp_base.specs.declared.message.Message.{Message}
-use Rattle.satp_canon.specs.FirstFault.{written}
+use Rattle.satp_canon.specs.FirstFault.{common, json_of, written}
 
 abbrev pub scalar_data : Scalar → Data
 scalar_data (number n) = json.number (json.unsigned n)
@@ -34,3 +34,10 @@ Reads m d = AllByRecursion (λ n. Holds (value m n) (get (member_text n) d)) (ro
 -- what is written for the values of a message is its canonical text
 abbrev pub WritesItsText : Type 0
 WritesItsText = (m : Message) (d : Data) → IsMessage m → Reads m d → written d ≡ canonical m
+
+-- the JSON value that the bytes are holds a message, from whose canonical text they differ first at this place
+pub record DiffersAt (text : List ℕ) (at : ℕ) : Type 0 where
+  pub message : Message
+  pub formed : IsMessage message
+  pub holds : (d : Data) → json_of text ≡ Some d → Reads message d
+  pub first : at ≡ common text (canonical message)

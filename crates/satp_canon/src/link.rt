@@ -1,8 +1,8 @@
 ghost use Rattle.std.specs.Prelude.{◌≡◌, codes, false, Some, IfSome, is_some};
 ghost use Rattle.satp_canon.specs.FirstFault.{is_link};
+ghost use Rattle.satp_base.specs.Chains.{link_of};
 ghost use Rattle.satp_base.specs.Forms.{IsLink};
 ghost use Rattle.satp_base.specs.declared.message.Link.{Link};
-ghost use Rattle.sha2.specs.Sha256.{sha256};
 ghost use Rattle.satp_base.specs.Canonical.{link_text};
 
 use base64::engine::general_purpose::URL_SAFE_NO_PAD;
@@ -11,7 +11,7 @@ use sha2::{Digest, Sha256};
 
 /// The link of a text.
 pub fn link_of(text: &[u8]) -> Link
-    ensures { result.0 ≡ sha256 text.now }
+    ensures { result ≡ link_of text.now }
 {
     Link(Sha256::digest(text))
 }

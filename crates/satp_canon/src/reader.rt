@@ -1,11 +1,12 @@
 //! Reads canonical texts.
 
-ghost use Rattle.std.specs.Prelude.{◌≡◌, ◌≤◌, ◌⊎◌, ℕ, Some, None, IfErr, IfOk, MatchResult, length, if◌then◌else◌};
+ghost use Rattle.std.specs.Prelude.{◌≡◌, ◌≤◌, ◌⊎◌, ℕ, Some, None, Err, IfErr, IfOk, MatchResult, length, if◌then◌else◌};
 ghost use Rattle.std.specs.Str.{bytes_eq};
 ghost use Rattle.satp_base.specs.Canonical.{IsText, canonical};
 ghost use Rattle.satp_base.specs.Forms.{IsMessage};
 ghost use Rattle.satp_base.specs.declared.message.Message.{Message};
 ghost use Rattle.satp_canon.specs.FirstFault.{common, first_fault, text_fault};
+ghost use Rattle.satp_canon.specs.Reads.{DiffersAt};
 ghost use Rattle.satp_canon.specs.declared.fault.CanonFault.TheVariants.{Memory};
 
 use crate::fault::CanonFault;
@@ -28,6 +29,8 @@ pub fn read(alloc: Global, text: &[u8]) -> Result<Message, CanonFault>
         (λ f. (f ≡ Memory) ⊎ (first_fault text.now ≡ Some f)) }
     ensures complete { (m : Message) → IsMessage m → IsText m text.now → length text.now ≤ 8192
         → MatchResult result (λ found. found ≡ m) (λ f. f ≡ Memory) }
+    // the text that it is compared with is that of the message in it
+    ensures canonical { (at : ℕ) → result ≡ Err (CanonFault.NotCanonical at) → DiffersAt text.now at }
 {
     if text.len() > LONGEST {
         return Err(CanonFault::Long { length: text.len() });

@@ -7,11 +7,12 @@ ghost use Rattle.serde_json.specs.Data.{number, unsigned, string};
 ghost use Rattle.serde_json.specs.Find.{get};
 ghost use Rattle.serde_json.specs.View.{view};
 ghost use Rattle.satp_base.specs.Canonical.{link_text, member_text, reason_named, reason_text};
-ghost use Rattle.satp_base.specs.Faults.{name_fault, session_fault};
+ghost use Rattle.satp_base.specs.Faults.{session_fault};
 ghost use Rattle.satp_base.specs.Forms.{IsLink, IsPlace};
+ghost use Rattle.satp_base.specs.Names.{is_name};
 ghost use Rattle.satp_base.specs.Numbers.{greatest_amount};
 ghost use Rattle.satp_base.specs.Values.{name_text, session_text};
-ghost use Rattle.satp_canon.specs.FirstFault.{fault_unless, holds_number, holds_text, is_link, is_name, is_within, number_in, text_in};
+ghost use Rattle.satp_canon.specs.FirstFault.{fault_unless, holds_number, holds_text, is_link, is_within, number_in, text_in};
 
 use crate::fault::CanonFault;
 use crate::link::link_read;

@@ -1,13 +1,14 @@
 -- What follows from a verdict, and what a message more makes of a chain.
-use Rattle.std.proofs.Common.{◌≡◌, ℕ, suc, ◌+◌, ◌≤◌, Bool, true, false, cond, not, List, [], ◌∷◌, ◌++◌, map, length, IsTrue, IfOk, Result, Ok, Err, refl, ap, ap₂, subst, sym, ◌∙◌, arith, ◌↔◌}
-use Rattle.std.specs.Prelude.{nat_le, nat_lt}
+use Rattle.std.proofs.Common.{◌≡◌, ℕ, zero, suc, ◌+◌, ◌-◌, ◌≤◌, Bool, true, false, cond, not, List, [], ◌∷◌, ◌++◌, map, length, IsTrue, IfOk, Result, Ok, Err, Option, Some, None, Bor, get_or, refl, ap, ap₂, subst, sym, ◌∙◌, arith, ◌↔◌}
+use Rattle.std.specs.Prelude.{IfSome, is_some, nat_le, nat_lt, slice_get}
 use Rattle.std.specs.List.{AllByRecursion}
+use Rattle.std.specs.Option.{option_copied}
 use Rattle.std.specs.Str.{bytes_eq}
 use Rattle.std.specs.Cmp.Lexicographic.{same_text}
-use Rattle.std.proofs.lemmas.Bool.{le-ltb, leb-false, lt-leb, ltb-false}
+use Rattle.std.proofs.lemmas.Bool.{both_ways, le-ltb, leb-false, lt-leb, ltb-false, ltb-true}
 use Rattle.std.proofs.lemmas.Cmp.{nat_list_eq_equiv}
+use Rattle.std.proofs.lemmas.Option.{slice_get_past, slice_get_read}
 use Rattle.std.proofs.lemmas.List.{length-map, length_push, map_push}
-use Rattle.sha2.specs.Sha256.{sha256}
 use Rattle.satp_base.specs.declared.text.Memory.{Memory}
 use Rattle.satp_base.specs.Canonical.{kind_of, part_kind}
 use Rattle.satp_base.specs.Chains.{last_link, link_at, link_of, message_at, next_text, texts_of}
@@ -25,9 +26,10 @@ use Rattle.satp_base.specs.declared.message.Part.{Part}
 use Rattle.satp_base.specs.declared.message.Body.{Body}
 use Rattle.satp_base.specs.declared.message.Body.TheVariants.{Chain, Recover, Update, Success}
 use Rattle.satp_base.specs.declared.message.Message.{Message}
-use Rattle.satp_chain.specs.Chained.{Chained, IsChain, next_message, next_signed, part_of, parts_in, pushed, tale_of, texts_in}
-use Rattle.satp_chain.specs.Verdicts.{Follows, IsChainBody, body_verdict, extends, is_settled, maker_at, next_verdict, place_of, place_verdict, same_link, same_name, taker_at, text_at}
+use Rattle.satp_chain.specs.Chained.{Chained, IsChain, entry_at, next_message, next_signed, part_of, parts_in, pushed, tale_of, texts_in}
+use Rattle.satp_chain.specs.Verdicts.{Follows, IsChainBody, body_verdict, extends, is_settled, maker_at, next_verdict, place_of, place_verdict, same_link, same_name, taker_at, text_at, verdict}
 use Rattle.satp_chain.specs.declared.signed.Signed.{Signed}
+use Rattle.satp_chain.specs.declared.signed.Verdict.{Verdict}
 use Rattle.satp_chain.specs.declared.signed.Verdict.TheVariants.{Next, Again, Gap, Other, WrongPrevious, WrongSender, OffTale}
 
 -- ---- kinds
@@ -129,8 +131,41 @@ goes_of chain sender text (Recover length last) h e = absurd h
 goes_of chain sender text (Update length entries) h e = absurd h
 goes_of chain sender text (Success length last) h e = absurd h
 
+-- a verdict that is not the next one's has another reason, or the kind is off the tale
+off_never : (settled same : Bool) (place at : ℕ) (link : Link) → cond settled (Again place) (cond same (Again place) (Other place link)) ≡ OffTale at → ⊥
+off_never true same place at link e = cc
+off_never false true place at link e = cc
+off_never false false place at link e = cc
+
+off_behind : (differs goes : Bool) (place at : ℕ) (link : Link) → cond differs (WrongPrevious link) (cond goes Next (OffTale place)) ≡ OffTale at → goes ≡ false
+off_behind true goes place at link e = absurd cc
+off_behind false true place at link e = absurd cc
+off_behind false false place at link e = refl
+
+is_off : (wrong far held settled same differs goes : Bool) (n place at : ℕ) (kept last : Link)
+    → cond wrong WrongSender (cond far (Gap n) (cond held (cond settled (Again place) (cond same (Again place) (Other place kept))) (cond differs (WrongPrevious last) (cond goes Next (OffTale place))))) ≡ OffTale at
+    → goes ≡ false
+is_off true far held settled same differs goes n place at kept last e = absurd cc
+is_off false true held settled same differs goes n place at kept last e = absurd cc
+is_off false false true settled same differs goes n place at kept last e = absurd (off_never settled same place at kept e)
+is_off false false false settled same differs goes n place at kept last e = off_behind differs goes place at last e
+
+off_of : (chain : Chained) (sender : Name) (text : List ℕ) (body : Body) (at : ℕ) → body_verdict chain sender text body ≡ OffTale at → extends chain (kind_of body) ≡ false
+off_of chain sender text (Chain place previous part) at e =
+    is_off (not (same_name sender (maker_at chain place))) (nat_lt (length chain.kept + 1) place) (nat_le place (length chain.kept)) (is_settled chain place) (bytes_eq text (text_at chain place))
+    (not (same_link previous (last_link (texts_in chain)))) (extends chain (part_kind part)) (length chain.kept) place at (link_at (texts_in chain) place) (last_link (texts_in chain)) e
+off_of chain sender text (Recover length last) at e = absurd cc
+off_of chain sender text (Update length entries) at e = absurd cc
+off_of chain sender text (Success length last) at e = absurd cc
+
+pub next_tale : (chain : Chained) (signed : Signed) → IsTale (tale_of chain) → IsChainBody signed.message.body → verdict chain signed ≡ Next → IsTale (tale_of chain ++ kind_of signed.message.body ∷ [])
+next_tale chain signed tale body e = extends-tale chain _ tale (goes_of chain signed.message.sender signed.text signed.message.body body e)
+
+pub off_tale : (chain : Chained) (signed : Signed) (at : ℕ) → IsTale (tale_of chain) → verdict chain signed ≡ OffTale at → ¬ IsTale (tale_of chain ++ kind_of signed.message.body ∷ [])
+off_tale chain signed at tale e = λ more. both_ways _ (off_of chain signed.message.sender signed.text signed.message.body at e) (extends-by_tale chain _ tale more)
+
 pub follows_tale : (chain : Chained) (signed : Signed) → IsTale (tale_of chain) → Follows chain signed → IsTale (tale_of chain ++ kind_of signed.message.body ∷ [])
-follows_tale chain signed tale h = extends-tale chain _ tale (goes_of chain signed.message.sender signed.text signed.message.body h.of_chain.body h.next)
+follows_tale chain signed tale h = next_tale chain signed tale h.of_chain.body h.next
 
 pub tale_pushed : (chain : Chained) (signed : Signed) → tale_of (pushed chain signed) ≡ tale_of chain ++ kind_of signed.message.body ∷ []
 tale_pushed chain signed = map_push (λ (s : Signed). kind_of s.message.body) chain.kept signed
@@ -219,6 +254,24 @@ message_behind chain signed part =
 
 -- ---- what the calls answer, from what they were told of the fields
 
+kept_at : (chain : Chained) (place : ℕ) → (place ≡ 0 → ⊥) → slice_get chain.kept (place - 1) ≡ entry_at chain place
+kept_at chain zero h = absurd (h refl)
+kept_at chain (suc n) h = let e : suc n - 1 ≡ n = omega arith in ap (slice_get chain.kept) e
+
+got_at : (kept : List Signed) (i : ℕ) (r : Option (Bor Signed)) → is_some r ≡ nat_lt i (length kept) → IfSome r (λ x. x.now ≡ get_or kept i x.now) → option_copied r ≡ slice_get kept i
+got_at kept i None some is = sym (slice_get_past kept i (ltb-false _ _ (sym some)))
+got_at kept i (Some x) some is = sym (slice_get_read kept (length kept) i x.now refl (ltb-true _ _ (sym some)) is)
+
+pub entry_found : (chain : Chained) (place : ℕ) (kept : List Signed) (r : Option (Bor Signed)) → (place ≡ 0 → ⊥) → kept ≡ chain.kept → is_some r ≡ nat_lt (place - 1) (length kept)
+    → IfSome r (λ x. x.now ≡ get_or kept (place - 1) x.now) → option_copied r ≡ entry_at chain place
+entry_found chain place kept r h same some is = got_at kept (place - 1) r some is ∙ ap (λ (ks : List Signed). slice_get ks (place - 1)) same ∙ kept_at chain place h
+
+pub checked : (chain : Chained) (signed : Signed) (place : ℕ) (previous : Link) (part : Part) (kind : Kind) (text : List ℕ) (r : Verdict) → signed.message.body ≡ Chain place previous part
+    → kind ≡ part_kind part → text ≡ signed.text → r ≡ place_verdict chain signed.message.sender place previous kind text → verdict chain signed ≡ r
+checked chain signed place previous part kind text r is e same found =
+    ap (body_verdict chain signed.message.sender signed.text) is
+    ∙ sym (found ∙ ap₂ (λ (k : Kind) (t : List ℕ). place_verdict chain signed.message.sender place previous k t) e same)
+
 kinds_long : (chain : Chained) → length (tale_of chain) ≡ length (texts_in chain)
 kinds_long chain = length-map chain.kept (λ (s : Signed). kind_of s.message.body) ∙ sym (length-map chain.kept (λ (s : Signed). s.text))
 
@@ -258,11 +311,10 @@ pub composed : (chain : Chained) (tale : List Kind) (count : ℕ) (link : Link) 
 composed chain tale count link part m same long e is =
     is ∙ ap₂ (λ (n : ℕ) (l : Link). message_at chain.session chain.recipient (n + 1) l part) (long ∙ ap length same ∙ kept_long chain) (last_is chain tale count link same long e)
 
-pub composed_behind : (chain : Chained) (signed : Signed) (tale : List Kind) (count : ℕ) (link : Link) (part : Part) (m : Message) → tale ≡ tale_of chain → count ≡ length tale → link.0 ≡ sha256 signed.text
+pub composed_behind : (chain : Chained) (signed : Signed) (tale : List Kind) (count : ℕ) (link : Link) (part : Part) (m : Message) → tale ≡ tale_of chain → count ≡ length tale → link ≡ link_of signed.text
     → m ≡ message_at chain.session chain.recipient (count + 2) link part → m ≡ next_message (pushed chain signed) part
 composed_behind chain signed tale count link part m same long e is =
-    let named : link ≡ link_of signed.text = ap (λ (bytes : List ℕ). let l : Link = record { 0 = bytes } in l) e in
-    is ∙ ap₂ (λ (n : ℕ) (l : Link). message_at chain.session chain.recipient (n + 2) l part) (long ∙ ap length same ∙ kept_long chain) named
+    is ∙ ap₂ (λ (n : ℕ) (l : Link). message_at chain.session chain.recipient (n + 2) l part) (long ∙ ap length same ∙ kept_long chain) e
     ∙ message_behind chain signed part
 
 pub next_formed : (chain : Chained) (part : Part) (m : Message) → IsTale (tale_of chain ++ part_kind part ∷ []) → IsPart part → m ≡ next_message chain part → IsFormed m

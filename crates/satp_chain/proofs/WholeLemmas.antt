@@ -3,12 +3,11 @@ use Rattle.std.proofs.Common.{◌≡◌, ℕ, zero, suc, ◌+◌, ◌-◌, ◌<�
 use Rattle.std.specs.Prelude.{nat_le, nat_lt, slice_get}
 use Rattle.std.specs.Option.{option_map_or}
 use Rattle.std.specs.Str.{bytes_eq}
-use Rattle.std.proofs.lemmas.Bool.{both_ways, leb-true, ltb-false}
+use Rattle.std.proofs.lemmas.Bool.{leb-true, ltb-false}
 use Rattle.std.proofs.lemmas.List.{length-map}
 use Rattle.satp_base.specs.Canonical.{kind_of, part_kind}
 use Rattle.satp_base.specs.Chains.{last_link, link_at, link_of, zero_link}
-use Rattle.satp_base.specs.Tales.{is_whole, last_of}
-use Rattle.satp_base.proofs.TaleTable.{comes_behind}
+use Rattle.satp_base.specs.Tales.{comes_behind, is_whole, last_of}
 use Rattle.satp_base.specs.declared.name.Name.{Name}
 use Rattle.satp_base.specs.declared.message.Kind.{Kind}
 use Rattle.satp_base.specs.declared.message.Link.{Link}
@@ -73,10 +72,6 @@ module _ (sender maker : Name) (place : ℕ) (previous : Link) (kind : Kind) (te
       ∙ ap (λ (x : Link). at_length long' tale' kept link x) l
       ∙ says_by (nat_le place long') (is_whole tale' && nat_lt place (long' - 1)) long' tale' kept other link link' last'
       (λ inside unsettled. h (leb-true place long' inside) (let far : nat_lt place (long' - 1) ≡ false = ap (λ (b : Bool). b && nat_lt place (long' - 1)) (sym whole) ∙ unsettled in omega (arith, ltb-false place (long' - 1) far)))
-
-some_kept : (kept : List Signed) → is_whole (map (λ (signed : Signed). kind_of signed.message.body) kept) ≡ true → 1 ≤ length kept
-some_kept [] whole = absurd (both_ways _ refl whole)
-some_kept (signed ∷ kept) whole = omega arith
 
 module _ (chain : Chained) (others : List Signed) (same : tale_of (with_kept chain others) ≡ tale_of chain) (whole : is_whole (tale_of chain) ≡ true)
     (at : (place : ℕ) → length chain.kept ≤ place + 1 → text_at (with_kept chain others) place ≡ text_at chain place) where

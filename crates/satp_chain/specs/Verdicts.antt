@@ -4,9 +4,8 @@ use Rattle.std.specs.Str.{bytes_eq}
 use Rattle.satp_base.specs.Canonical.{part_kind}
 use Rattle.satp_base.specs.Chains.{last_link, link_at, name_of, role_at}
 use Rattle.satp_base.specs.Forms.{IsFormed}
-use Rattle.satp_base.specs.Tales.{is_whole, last_of, other}
+use Rattle.satp_base.specs.Tales.{comes_behind, is_whole, last_of, other}
 use Rattle.satp_base.specs.Values.{name_text}
-use Rattle.satp_base.proofs.TaleTable.{comes_behind}
 use Rattle.satp_base.specs.declared.name.Name.{Name}
 use Rattle.satp_base.specs.declared.message.Kind.{Kind}
 use Rattle.satp_base.specs.declared.message.Link.{Link}
@@ -45,7 +44,8 @@ kept_verdict chain place text =
     else if bytes_eq text (text_at chain place) then Again place
     else Other place (link_at (texts_in chain) place)
 
--- the kind may come behind the chain's last one; that this is so exactly where the kinds with it are a tale is a law
+-- the kind may come behind the chain's last one. Of a chain whose kinds are a tale, as every `Chain` is, that is so exactly
+-- where they are one with this kind too: `check` says so of its verdicts, and `law_chains` of any list of messages.
 unfoldable pub extends : Chained → Kind → Bool
 extends chain kind = comes_behind (last_of (tale_of chain)) kind
 

@@ -19,7 +19,7 @@ use std::marker::Model;
 const PLACES: usize = 11;
 
 /// The messages of a session's chain with their texts, in the order of their places. Each names the link of the text
-/// before it, so that equal last links mean equal chains.
+/// before it. Their kinds are a tale.
 #[derive(Drop)]
 pub struct Chain {
     session: SessionId,
@@ -46,7 +46,7 @@ impl Chain {
     ghost use Rattle.std.specs.Str.{bytes_eq};
     ghost use Rattle.satp_base.specs.Chains.{head_of, link_at, message_at};
     ghost use Rattle.satp_base.specs.Forms.{IsPart};
-    ghost use Rattle.satp_base.specs.Canonical.{part_kind};
+    ghost use Rattle.satp_base.specs.Canonical.{kind_of, part_kind};
     ghost use Rattle.satp_base.specs.Tales.{IsTale};
     ghost use Rattle.satp_chain.specs.Chained.{IsChain, entry_at, next_signed, pushed, tale_of, texts_in, turn_of};
     ghost use Rattle.satp_chain.specs.Verdicts.{Follows, IsOfChain, kept_verdict, maker_at, next_verdict, place_verdict, taker_at, text_at, verdict};
@@ -66,7 +66,9 @@ impl Chain {
 
     /// How long the chain is, and the links of its last two texts.
     pub fn head(&self) -> Head
-        ensures { result ≡ head_of (texts_in self.now) }
+        ensures head { result ≡ head_of (texts_in self.now) }
+        ensures tale { IsTale (tale_of self.now) }
+        ensures within { result.length ≤ 11 }
     {
         let length = self.tale.length();
         Head {
@@ -96,20 +98,30 @@ impl Chain {
 
     /// The message at a place, from 1; none where no message stands there.
     pub fn entry(&self, place: u8) -> Option<&Signed>
-        ensures { option_copied result ≡ entry_at self.now place }
+        ensures entry { option_copied result ≡ entry_at self.now place }
+        ensures tale { IsTale (tale_of self.now) }
     {
+        let kept = &self.kept;
         if place == 0 {
             return None;
         }
-        self.kept.get(place as usize - 1)
+        kept.get(place as usize - 1)
     }
 
     /// What the chain says of a chain message of its session. A whole chain looks at its last two texts alone, so that it
     /// answers alike where the others are no longer kept.
     pub fn check(&self, signed: &Signed) -> Verdict
         requires { IsOfChain self.now signed.now }
-        ensures { result ≡ verdict self.now signed.now }
+        ensures verdict { result ≡ verdict self.now signed.now }
+        ensures tale { IsTale (tale_of self.now) }
+        // the chain's kinds are a tale with that of the next message too, and none with one that is off the tale
+        ensures next { result ≡ Verdict.Next
+            → IsTale (tale_of self.now ++ kind_of signed.now.message.body ∷ []) }
+        ensures off { (place : ℕ) → result ≡ Verdict.OffTale place
+            → ¬ IsTale (tale_of self.now ++ kind_of signed.now.message.body ∷ []) }
     {
+        // What the clauses on tales rest on.
+        let _tale = &self.tale;
         let Body::Chain {
             place,
             previous,

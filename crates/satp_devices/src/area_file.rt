@@ -1,4 +1,5 @@
-ghost use Rattle.std.specs.Prelude.{◌≤◌, ◌+◌, ◌-◌, ◌^◌, length, IfOk, OnOk};
+ghost use Rattle.std.specs.Prelude.{◌≡◌, ◌≤◌, ◌<ℤ◌, ◌+◌, ◌-◌, ◌^◌, true, false, None, length, drop, IsSome, IfOk, OnOk};
+ghost use Rattle.std.specs.Fd.{file_raw_fd};
 
 use crate::folder::sync_folder;
 use std::fs::{File, Files, OpenOptions};
@@ -24,7 +25,9 @@ pub struct AreaFile {
 
 impl AreaFile {
     /// The file that stands at a path, or that a write will make there.
-    pub fn new(path: PathBuf) -> AreaFile {
+    pub fn new(path: PathBuf) -> AreaFile
+        ensures { result ≡ record { path = path; file = None; is_new = false } }
+    {
         AreaFile {
             path,
             file: None,
@@ -33,23 +36,33 @@ impl AreaFile {
     }
 
     /// How many bytes the file has.
-    pub fn length<R: Files<File = File>>(&mut self, files: &R) -> io::Result<u64> {
-        match self.find(files)? {
+    pub fn length<R: Files<File = File>>(&mut self, files: &R) -> io::Result<u64>
+        ensures path { self.new.path ≡ self.old.path }
+        ensures is_new { self.new.is_new ≡ self.old.is_new }
+        ensures missing { IfOk result (λ n. self.new.file ≡ None → n ≡ 0) }
+    {
+        self.find(files)?;
+        match &self.file {
             Some(file) => Ok(file.metadata()?.len()),
             None => Ok(0),
         }
     }
 
-    /// Fills the front of `into` with the bytes from a place on; fewer come only where the file ends.
+    /// Fills the front of `into` with the bytes from a place on; fewer come only where the file ends. The rest of `into` stays as it was.
     pub fn read<R: Files<File = File>>(
         &mut self,
         files: &R,
         at: u64,
         into: &mut [u8],
     ) -> io::Result<usize>
-        ensures { IfOk result (λ n. n ≤ length into.new) }
+        ensures path { self.new.path ≡ self.old.path }
+        ensures is_new { self.new.is_new ≡ self.old.is_new }
+        ensures missing { IfOk result (λ n. self.new.file ≡ None → n ≡ 0) }
+        ensures bound { IfOk result (λ n. n ≤ length into.new) }
+        ensures rest { IfOk result (λ n. drop n into.new ≡ drop n into.old) }
     {
-        let Some(file) = self.find(files)? else {
+        self.find(files)?;
+        let Some(file) = &self.file else {
             return Ok(0);
         };
         let left = file.metadata()?.len().saturating_sub(at);
@@ -65,12 +78,16 @@ impl AreaFile {
         at: u64,
         bytes: &[u8],
     ) -> io::Result<()>
-        ensures { OnOk result (at + length bytes.now ≤ 2 ^ 64 - 1) }
+        ensures path { self.new.path ≡ self.old.path }
+        ensures is_new { self.old.is_new ≡ true → self.new.is_new ≡ true }
+        ensures there { OnOk result (IsSome self.new.file) }
+        ensures fits { OnOk result (at + length bytes.now ≤ 2 ^ 64 - 1) }
     {
         if at.checked_add(bytes.len() as u64).is_none() {
             return Err(ErrorKind::InvalidInput.into());
         }
-        if self.find(files)?.is_none() {
+        self.find(files)?;
+        if self.file.is_none() {
             self.make(files)?;
         }
         match &self.file {
@@ -80,29 +97,40 @@ impl AreaFile {
     }
 
     /// Cuts the file to its first bytes, where it has more.
-    pub fn cut<R: Files<File = File>>(&mut self, files: &R, size: u64) -> io::Result<()> {
-        match self.find(files)? {
+    pub fn cut<R: Files<File = File>>(&mut self, files: &R, size: u64) -> io::Result<()>
+        ensures path { self.new.path ≡ self.old.path }
+        ensures is_new { self.new.is_new ≡ self.old.is_new }
+    {
+        self.find(files)?;
+        match &self.file {
             Some(file) if size < file.metadata()?.len() => file.set_len(size),
             _ => Ok(()),
         }
     }
 
     /// Makes what the file holds survive a stop, and the directory's entry of a file that was made.
-    pub fn sync<R: Files<File = File>>(&mut self, files: &R) -> io::Result<()> {
+    pub fn sync<R: Files<File = File>>(&mut self, files: &R) -> io::Result<()>
+        ensures path { self.new.path ≡ self.old.path }
+        ensures entry { OnOk result (self.new.is_new ≡ false) }
+    {
         if self.is_new {
             if let Some(folder) = self.path.parent() {
                 sync_folder(files, folder)?;
             }
             self.is_new = false;
         }
-        match self.find(files)? {
+        self.find(files)?;
+        match &self.file {
             Some(file) => file.sync_all(),
             None => Ok(()),
         }
     }
 
-    /// The file, where it is there.
-    fn find<R: Files<File = File>>(&mut self, files: &R) -> io::Result<Option<&File>> {
+    /// Opens the file, where it is there.
+    fn find<R: Files<File = File>>(&mut self, files: &R) -> io::Result<()>
+        ensures path { self.new.path ≡ self.old.path }
+        ensures is_new { self.new.is_new ≡ self.old.is_new }
+    {
         if self.file.is_none() {
             let mut options = OpenOptions::new();
             options.read(true).write(true);
@@ -112,11 +140,15 @@ impl AreaFile {
                 Err(error) => return Err(error),
             }
         }
-        Ok(self.file.as_ref())
+        Ok(())
     }
 
     /// Makes the file.
-    fn make<R: Files<File = File>>(&mut self, files: &R) -> io::Result<()> {
+    fn make<R: Files<File = File>>(&mut self, files: &R) -> io::Result<()>
+        ensures path { self.new.path ≡ self.old.path }
+        ensures there { OnOk result (IsSome self.new.file) }
+        ensures is_new { self.new.is_new ≡ true }
+    {
         let mut options = OpenOptions::new();
         options
             .read(true)
@@ -129,15 +161,21 @@ impl AreaFile {
     }
 }
 
-/// Opens a file, and gives it no descriptor of a standard stream: a line that is printed to a stream which was closed must not land in the file.
+/// Opens a file, and gives it no descriptor of a standard stream: a line that is printed to a stream which was closed must not land in the file. It fails where there is no other descriptor.
 pub fn open_apart<R: Files<File = File>>(
     files: &R,
     options: &OpenOptions,
     path: Path<'_>,
-) -> io::Result<File> {
+) -> io::Result<File>
+    ensures { IfOk result (λ file. LAST_STANDARD <ℤ file_raw_fd file) }
+{
     let file = options.open(files, path)?;
-    if file.as_raw_fd() <= LAST_STANDARD {
-        return file.try_clone();
+    if file.as_raw_fd() > LAST_STANDARD {
+        return Ok(file);
     }
-    Ok(file)
+    let apart = file.try_clone()?;
+    if apart.as_raw_fd() <= LAST_STANDARD {
+        return Err(ErrorKind::Other.into());
+    }
+    Ok(apart)
 }

@@ -1,19 +1,20 @@
-ghost use Rattle.std.specs.Prelude.{None};
+ghost use Rattle.std.specs.Prelude.{◌≡◌, ◌≤◌, ◌+◌, ◌-◌, ◌^◌, None, length, drop, IfOk, OnOk};
 ghost use Rattle.satp_base.specs.Streams.{HasCause};
+ghost use Rattle.satp_devices.specs.Counting.{Counts};
+ghost use Rattle.satp_devices.specs.Places.{Beside, Entered, Enters, OnArea};
 ghost use Rattle.satp_devices.specs.Untold.{untold_keeps};
 
-use crate::area_file::AreaFile;
 use crate::faults::counted;
 use crate::folder::Folder;
 use satp_base::{Area, Device, Disk, DiskFault};
 use std::alloc::Global;
 use std::fs::{File, Files};
-use std::io::{self, ErrorKind};
+use std::io::ErrorKind;
 
 /// A disk whose areas are the files `journal-a`, `journal-b` and `ledger` of a directory, which the lock of its file `lock` keeps for one program.
 ///
-/// Before [`Disk::enter`] has succeeded every other call fails. A file that is missing reads as empty, a cut or sync of it does nothing, and the first write makes it.
-/// It tells nothing, and counts its faults.
+/// Before [`Disk::enter`] has succeeded, and after it has failed, every other call fails. A file that is missing reads as empty, a cut or sync of it does nothing, and the first write makes it.
+/// It tells nothing of what the files hold, and counts each fault once. Where it is and which file an area has is its own, and stands in the contracts of its calls.
 #[derive(Drop)]
 pub struct FileDisk<R: Files<File = File> + Copy> {
     files: R,
@@ -24,7 +25,10 @@ pub struct FileDisk<R: Files<File = File> + Copy> {
 
 impl<R: Files<File = File> + Copy> FileDisk<R> {
     /// A disk that is in no directory yet.
-    pub fn new(files: R, alloc: Global) -> FileDisk<R> {
+    pub fn new(files: R, alloc: Global) -> FileDisk<R>
+        ensures place { result.folder ≡ None }
+        ensures faults { result.faults ≡ 0 }
+    {
         FileDisk {
             files,
             alloc,
@@ -38,6 +42,10 @@ impl<R: Files<File = File> + Copy> FileDisk<R> {
     /// `DiskFault` where this disk is in no directory, and where the directory fails.
     pub fn beside(&mut self) -> Result<FileDisk<R>, DiskFault>
         ensures cause { HasCause self.old.faults self.new.faults result }
+        ensures counts { Counts self.old.faults self.new.faults result }
+        ensures here { self.new.folder ≡ self.old.folder }
+        ensures place { IfOk result (λ disk. Beside self.old.folder disk.folder) }
+        ensures faults { IfOk result (λ disk. disk.faults ≡ 0) }
     {
         let answer = match &self.folder {
             Some(folder) => folder.again(&self.files, self.alloc),
@@ -51,13 +59,16 @@ impl<R: Files<File = File> + Copy> FileDisk<R> {
             faults: 0,
         })
     }
-}
 
-/// The file of an area, in the directory that was entered.
-fn area_of(folder: &mut Option<Folder>, area: Area) -> io::Result<&mut AreaFile> {
-    match folder {
-        Some(folder) => Ok(folder.area(area)),
-        None => Err(ErrorKind::NotFound.into()),
+    /// Opens a directory, and counts where that fails.
+    fn open(&mut self, dir: &[u8]) -> Result<Folder, DiskFault>
+        ensures cause { HasCause self.old.faults self.new.faults result }
+        ensures counts { Counts self.old.faults self.new.faults result }
+        ensures here { self.new.folder ≡ self.old.folder }
+        ensures folder { IfOk result (λ folder. Entered dir.now folder) }
+    {
+        let answer = Folder::enter(&self.files, self.alloc, dir);
+        counted(&mut self.faults, answer.map_err(|_| DiskFault))
     }
 }
 
@@ -72,41 +83,77 @@ impl<R: Files<File = File> + Copy> Device for FileDisk<R> {
 }
 
 impl<R: Files<File = File> + Copy> Disk for FileDisk<R> {
-    fn enter(&mut self, dir: &[u8]) -> Result<(), DiskFault> {
+    fn enter(&mut self, dir: &[u8]) -> Result<(), DiskFault>
+        ensures cause { HasCause self.old.faults self.new.faults result }
+        ensures counts { Counts self.old.faults self.new.faults result }
+        ensures place { Enters dir.now self.new.folder result }
+    {
         // An earlier lock is given back first, so that the same directory can be entered again.
         self.folder = None;
-        let answer = Folder::enter(&self.files, self.alloc, dir);
-        self.folder = Some(counted(&mut self.faults, answer.map_err(|_| DiskFault))?);
+        self.folder = Some(self.open(dir)?);
         Ok(())
     }
 
-    fn length(&mut self, area: Area) -> Result<u64, DiskFault> {
-        let file = area_of(&mut self.folder, area);
-        let answer = file.and_then(|file| file.length(&self.files));
+    fn length(&mut self, area: Area) -> Result<u64, DiskFault>
+        ensures cause { HasCause self.old.faults self.new.faults result }
+        ensures counts { Counts self.old.faults self.new.faults result }
+        ensures place { OnArea area self.old.folder self.new.folder result }
+    {
+        let answer = match &mut self.folder {
+            Some(folder) => folder.area(area).length(&self.files),
+            None => Err(ErrorKind::NotFound.into()),
+        };
         counted(&mut self.faults, answer.map_err(|_| DiskFault))
     }
 
-    fn read(&mut self, area: Area, at: u64, into: &mut [u8]) -> Result<usize, DiskFault> {
-        let file = area_of(&mut self.folder, area);
-        let answer = file.and_then(|file| file.read(&self.files, at, into));
+    fn read(&mut self, area: Area, at: u64, into: &mut [u8]) -> Result<usize, DiskFault>
+        ensures bound { IfOk result (λ n. n ≤ length into.new) }
+        ensures rest { IfOk result (λ n. drop n into.new ≡ drop n into.old) }
+        ensures cause { HasCause self.old.faults self.new.faults result }
+        ensures counts { Counts self.old.faults self.new.faults result }
+        ensures place { OnArea area self.old.folder self.new.folder result }
+    {
+        let answer = match &mut self.folder {
+            Some(folder) => folder.area(area).read(&self.files, at, into),
+            None => Err(ErrorKind::NotFound.into()),
+        };
         counted(&mut self.faults, answer.map_err(|_| DiskFault))
     }
 
-    fn write(&mut self, area: Area, at: u64, bytes: &[u8]) -> Result<(), DiskFault> {
-        let file = area_of(&mut self.folder, area);
-        let answer = file.and_then(|file| file.write(&self.files, at, bytes));
+    fn write(&mut self, area: Area, at: u64, bytes: &[u8]) -> Result<(), DiskFault>
+        ensures fits { OnOk result (at + length bytes.now ≤ 2 ^ 64 - 1) }
+        ensures cause { HasCause self.old.faults self.new.faults result }
+        ensures counts { Counts self.old.faults self.new.faults result }
+        ensures place { OnArea area self.old.folder self.new.folder result }
+    {
+        let answer = match &mut self.folder {
+            Some(folder) => folder.area(area).write(&self.files, at, bytes),
+            None => Err(ErrorKind::NotFound.into()),
+        };
         counted(&mut self.faults, answer.map_err(|_| DiskFault))
     }
 
-    fn cut(&mut self, area: Area, size: u64) -> Result<(), DiskFault> {
-        let file = area_of(&mut self.folder, area);
-        let answer = file.and_then(|file| file.cut(&self.files, size));
+    fn cut(&mut self, area: Area, size: u64) -> Result<(), DiskFault>
+        ensures cause { HasCause self.old.faults self.new.faults result }
+        ensures counts { Counts self.old.faults self.new.faults result }
+        ensures place { OnArea area self.old.folder self.new.folder result }
+    {
+        let answer = match &mut self.folder {
+            Some(folder) => folder.area(area).cut(&self.files, size),
+            None => Err(ErrorKind::NotFound.into()),
+        };
         counted(&mut self.faults, answer.map_err(|_| DiskFault))
     }
 
-    fn sync(&mut self, area: Area) -> Result<(), DiskFault> {
-        let file = area_of(&mut self.folder, area);
-        let answer = file.and_then(|file| file.sync(&self.files));
+    fn sync(&mut self, area: Area) -> Result<(), DiskFault>
+        ensures cause { HasCause self.old.faults self.new.faults result }
+        ensures counts { Counts self.old.faults self.new.faults result }
+        ensures place { OnArea area self.old.folder self.new.folder result }
+    {
+        let answer = match &mut self.folder {
+            Some(folder) => folder.area(area).sync(&self.files),
+            None => Err(ErrorKind::NotFound.into()),
+        };
         counted(&mut self.faults, answer.map_err(|_| DiskFault))
     }
 }

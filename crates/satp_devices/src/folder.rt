@@ -1,3 +1,8 @@
+ghost use Rattle.std.specs.Prelude.{◌≡◌, IfOk};
+ghost use Rattle.std.specs.Path.{path_bytes, path_buf_bytes};
+ghost use Rattle.std.specs.Borrow.{sem};
+ghost use Rattle.satp_devices.specs.Places.{file_of, LendsFile, Entered, StandsIn};
+
 use crate::area_file::{AreaFile, OWNER_ALONE, open_apart};
 use satp_base::Area;
 use std::alloc::Global;
@@ -22,18 +27,16 @@ pub struct Folder {
     journal_b: AreaFile,
     ledger: AreaFile,
     /// Keeps other programs out for as long as it is open.
-    _lock: Option<File>,
+    lock: Option<File>,
 }
 
 impl Folder {
     /// Goes to a directory, which is made where it is missing, and locks it.
     ///
     /// It fails at once where another program holds the lock.
-    pub fn enter<R: Files<File = File>>(
-        files: &R,
-        alloc: Global,
-        dir: &[u8],
-    ) -> io::Result<Folder> {
+    pub fn enter<R: Files<File = File>>(files: &R, alloc: Global, dir: &[u8]) -> io::Result<Folder>
+        ensures { IfOk result (λ folder. Entered dir.now folder) }
+    {
         let path = read_path(dir)?;
         make_folder(files, path)?;
         let lock = take_lock(files, path.join(alloc, LOCK)?.as_path())?;
@@ -41,7 +44,9 @@ impl Folder {
     }
 
     /// The same directory once more, under the lock of this one.
-    pub fn again<R: Files<File = File>>(&self, files: &R, alloc: Global) -> io::Result<Folder> {
+    pub fn again<R: Files<File = File>>(&self, files: &R, alloc: Global) -> io::Result<Folder>
+        ensures { IfOk result (λ folder. StandsIn (path_buf_bytes self.now.path) folder) }
+    {
         Folder::open(files, alloc, self.path.as_path(), None)
     }
 
@@ -50,7 +55,10 @@ impl Folder {
         alloc: Global,
         path: Path<'_>,
         lock: Option<File>,
-    ) -> io::Result<Folder> {
+    ) -> io::Result<Folder>
+        ensures place { IfOk result (λ folder. StandsIn (path_bytes path.entry) folder) }
+        ensures lock { IfOk result (λ folder. folder.lock ≡ lock) }
+    {
         // A file may stand here that was made just before a program was stopped: its entry isn't safe yet.
         sync_folder(files, path)?;
         Ok(Folder {
@@ -58,12 +66,15 @@ impl Folder {
             journal_a: AreaFile::new(path.join(alloc, JOURNAL_A)?),
             journal_b: AreaFile::new(path.join(alloc, JOURNAL_B)?),
             ledger: AreaFile::new(path.join(alloc, LEDGER)?),
-            _lock: lock,
+            lock,
         })
     }
 
     /// The file of an area.
-    pub fn area(&mut self, area: Area) -> &mut AreaFile {
+    pub fn area(&mut self, area: Area) -> &mut AreaFile
+        ensures value { result.now ≡ file_of self.old area }
+        ensures* writes_back { sem 𝓛 (LendsFile self.entry area result) }
+    {
         match area {
             Area::JournalA => &mut self.journal_a,
             Area::JournalB => &mut self.journal_b,
@@ -73,7 +84,9 @@ impl Folder {
 }
 
 /// The path that the bytes spell. The empty text names no directory.
-fn read_path(dir: &[u8]) -> io::Result<Path<'_>> {
+fn read_path(dir: &[u8]) -> io::Result<Path<'_>>
+    ensures { IfOk result (λ path. path_bytes path ≡ dir.now) }
+{
     match str::from_utf8(dir) {
         Ok(text) if !text.is_empty() => Ok(Path::new(text)),
         _ => Err(ErrorKind::InvalidInput.into()),

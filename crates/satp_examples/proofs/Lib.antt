@@ -1,2 +1,4 @@
 pub mod Images
 pub mod Books
+pub mod KeptJournals
+pub mod Mends

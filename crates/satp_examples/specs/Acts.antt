@@ -1,7 +1,7 @@
 -- What calls on a ledger may answer, and what they leave of what it tells.
 use Rattle.std.specs.Prelude.{◌+◌, ℕ, List, [], ◌∷◌, Option, Some, None, Result, Ok, Err}
 use Rattle.std.specs.FinMap as map
-use Rattle.satp_base.specs.Acts.{ActsOn, Applies, Asks, FoundEvents, FoundsBook, MayAdd, MayAnswer, founded}
+use Rattle.satp_base.specs.Acts.{ActsOn, Applies, Asks, FoundEvents, FoundsBook, MayAdd, MayAnswer, MayRefuse, founded}
 use Rattle.satp_base.specs.Calls.{asked, made}
 use Rattle.satp_base.specs.LedgerRule.{moved}
 use Rattle.satp_base.specs.Money.{Book, held, held_of_all}
@@ -13,9 +13,10 @@ use Rattle.satp_base.specs.declared.ledger.ActFault.TheVariants as act
 use Rattle.satp_base.specs.declared.ledger.Answer.{Answer}
 use Rattle.satp_base.specs.declared.ledger.Answer.TheVariants.{Done, NoFunds, UnknownAsset}
 use Rattle.satp_base.specs.declared.ledger.CoreFault.TheVariants as core
-use Rattle.satp_base.specs.declared.ledger.Entry.TheVariants.{Absent, Locked}
+use Rattle.satp_base.specs.declared.ledger.Entry.{Entry}
+use Rattle.satp_base.specs.declared.ledger.Entry.TheVariants.{Absent, Locked, Burnt}
 use Rattle.satp_base.specs.declared.ledger.LedgerCall.TheVariants.{Raise}
-use Rattle.satp_base.specs.declared.ledger.LedgerOp.TheVariants.{Lock, Burn}
+use Rattle.satp_base.specs.declared.ledger.LedgerOp.TheVariants.{Lock, Burn, Mint}
 use Rattle.satp_base.specs.declared.name.Name.{Name}
 use Rattle.satp_money.specs.Amounts.{Agrees}
 use Rattle.satp_examples.specs.Calls.{two_calls}
@@ -48,7 +49,14 @@ pub record OperationsOfALedger : Type 0 where
 pub record CallsOfALedger : Type 0 where
   pub lock_may_lack_funds : MayAnswer Lock (NoFunds 0)
   pub burn_may_not : ¬ MayAnswer Burn (NoFunds 0)
+  pub mint_may_not : ¬ MayAnswer Mint (NoFunds 0)
   pub lock_knows_no_assets : ¬ MayAnswer Lock UnknownAsset
+  -- out of order only over an entry that isn't moved and isn't the result
+  pub burn_of_nothing_may_be_refused : MayRefuse Burn (act.OutOfOrder Absent)
+  pub burn_of_the_locked_may_not : ¬ MayRefuse Burn (act.OutOfOrder Locked)
+  pub burn_of_the_burnt_may_not : ¬ MayRefuse Burn (act.OutOfOrder Burnt)
+  pub lock_never_is : (entry : Entry) → ¬ MayRefuse Lock (act.OutOfOrder entry)
+  pub lock_may_fail : MayRefuse Lock act.Failed
   -- an event only of what is done, or may have been
   pub may_be_done_now : MayAdd lock_event (Ok Done) (lock_event ∷ [])
   pub may_be_done_before : MayAdd lock_event (Ok Done) []

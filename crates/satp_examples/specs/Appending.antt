@@ -13,7 +13,7 @@ use Rattle.satp_journal.specs.Opening.{OpenAnswers}
 use Rattle.satp_journal.specs.State.{Fits, Held, JournalState}
 use Rattle.satp_journal.specs.declared.fault.JournalFault.{JournalFault}
 use Rattle.satp_journal.specs.declared.fault.JournalFault.TheVariants.{Disk, Damaged, Memory, Broken}
-use Rattle.satp_journal.specs.declared.list.Unread.TheVariants as unread
+use Rattle.satp_journal.specs.declared.fault.Unread.TheVariants as unread
 use Rattle.satp_examples.specs.Journals.{abc, abc_then, d}
 
 abbrev pub held : List (List ℕ) → Held

@@ -4,12 +4,12 @@ use Rattle.std.specs.Prelude.{◌≡◌, ◌≢◌, ◌≤◌, ℕ, List, [], �
 use Rattle.satp_base.specs.Founding.{Founding}
 use Rattle.satp_base.specs.Genesis.{AddsAsset, AddsHold, IsGenesis}
 use Rattle.satp_base.specs.GenesisText.{nothing}
-use Rattle.satp_base.specs.Lines.{Fails, IsLines}
+use Rattle.satp_base.specs.Lines.{Fails, Front, IsLines, Leaves}
 use Rattle.satp_base.specs.Numbers.{greatest_amount}
 use Rattle.satp_base.specs.declared.genesis.Asset.{Asset}
 use Rattle.satp_base.specs.declared.genesis.Hold.{Hold}
 use Rattle.satp_base.specs.declared.lines.LinesFault.{LinesFault}
-use Rattle.satp_base.specs.declared.lines.LinesFault.TheVariants.{Long, Line}
+use Rattle.satp_base.specs.declared.lines.LinesFault.TheVariants.{Long, Line, Memory}
 use Rattle.satp_base.specs.declared.name.Name.{Name}
 use Rattle.satp_examples.specs.Ledgers.{with_gold}
 use Rattle.satp_examples.specs.Samples.{bob, gold, salt, units}
@@ -91,3 +91,27 @@ pub record LinesOfAText : Type 0 where
   pub not_by_no_line : (number : ℕ) → ¬ FailsBy 4 [] (Line number)
   -- no line of a text that is too long is looked at
   pub not_a_line_past_the_most : (number : ℕ) → ¬ FailsBy 3 (97 ∷ 10 ∷ 10 ∷ 10 ∷ []) (Line number)
+
+-- behind this fault these lines are there
+abbrev pub LeftBehind : List ℕ → LinesFault → List (List ℕ) → Type 0
+LeftBehind text fault lines = Leaves Takes text [] fault lines
+
+abbrev pub IsFront : List ℕ → List (List ℕ) → Type 0
+IsFront text lines = Front Takes text [] lines
+
+-- an empty line stands between `a` and `b`
+abbrev pub a_gap_b : List ℕ
+a_gap_b = 97 ∷ 10 ∷ 10 ∷ 98 ∷ 10 ∷ []
+
+pub record LinesLeftBehind : Type 0 where
+  pub those_before : LeftBehind a_gap_b (Line 2) (a ∷ [])
+  pub not_nothing : ¬ LeftBehind a_gap_b (Line 2) []
+  pub not_those_behind : ¬ LeftBehind a_gap_b (Line 2) (a ∷ b ∷ [])
+  pub nothing_of_a_long_text : LeftBehind a_and_b (Long 4) []
+  pub not_its_first_line : ¬ LeftBehind a_and_b (Long 4) (a ∷ [])
+  -- where no memory is found, any front
+  pub one : LeftBehind a_and_b Memory (a ∷ [])
+  pub not_past_a_refused_line : ¬ LeftBehind a_gap_b Memory (a ∷ b ∷ [])
+  pub of_no_line : IsFront a_gap_b []
+  pub of_all_lines : IsFront a_and_b (a ∷ b ∷ [])
+  pub not_with_an_empty_line : ¬ IsFront a_gap_b (a ∷ [] ∷ [])

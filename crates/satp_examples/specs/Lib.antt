@@ -20,3 +20,14 @@ pub mod Keepers
 pub mod SetUps
 pub mod Deals
 pub mod Commands
+pub mod JournalStops
+pub mod SitePoints
+pub mod Values
+pub mod SafeWorlds
+pub mod KeeperStops
+pub mod SetUpStops
+pub mod Replies
+pub mod Inits
+pub mod Accounts
+pub mod MemoryDisks
+pub mod LedgerRecords

@@ -1,6 +1,6 @@
 -- What the sides of a session do next, step by step, and which record may come.
 use Rattle.std.specs.Prelude.{◌≡◌, List, [], ◌∷◌, ◌++◌, take, true, false, Some, None}
-use Rattle.satp_base.specs.Roles.{After, AreAllowed, Gives, RoleRule, next_of}
+use Rattle.satp_base.specs.Roles.{After, AreAllowed, RoleRule, next_of}
 use Rattle.satp_base.specs.Tales.{eleven}
 use Rattle.satp_base.specs.Views.{KeepsTale, begin, nothing_done, push, view_from, view_of}
 use Rattle.satp_base.specs.declared.ledger.Answer.TheVariants as answer
@@ -105,9 +105,6 @@ pub record RecordsThatMayCome : Type 0 where
   pub not_the_recipient : ¬ RecipientMay [] Rescue
 
 pub record AnswersAndRecords : Type 0 where
-  pub lock_may_lack_funds : Gives Lock (answer.NoFunds 0)
-  pub burn_may_not : ¬ Gives Burn (answer.NoFunds 0)
-  pub mint_may_not : ¬ Gives Mint (answer.NoFunds 0)
   pub done : After Burn answer.Done (Did Burn)
   pub unknown : After Mint answer.UnknownAsset (Chose (Back UnknownAsset))
   pub not_done : ¬ After Lock (answer.Taken Locked) (Did Lock)

@@ -15,7 +15,7 @@ use Rattle.satp_gateway.specs.declared.fault.SetUpFault.TheVariants.{Already, Da
 
 -- the bytes that were read are those of the area
 pub opens_stands : (payloads : List (List ℕ)) (t : Told) (new : Option Told) → Opens payloads (Some t) new → Stands (seen t.trail JournalA) payloads
-opens_stands payloads t new (image, read, stands, is) = subst (λ (l : List ℕ). Stands l payloads) read stands
+opens_stands payloads t new (journal, list, (image, (read, stands, area, whole), is)) = subst (Stands (seen t.trail JournalA)) list (subst (λ (l : List ℕ). Stands l journal.held.payloads) read stands)
 
 vacant_decides : (image : List ℕ) → Stands image [] → DecidedBy image (Ok tt)
 vacant_decides image stands = (

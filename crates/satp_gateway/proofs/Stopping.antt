@@ -56,15 +56,14 @@ rests_founded t rests image here = rests image (subst (λ (s : Standing). Leaves
 -- ---- an opening without a record
 
 opens_stops : (payloads : List (List ℕ)) (t m : Told) → KeepsModel m.trail → Opens payloads (Some t) (Some m) → OpenStops JournalA (Some t) (Some m)
-opens_stops payloads t m keeps (image, read, stands, is) =
-    let held : Held = record { area = JournalA; payloads = payloads; broken = false } in
-    mended_stops JournalA held image _ (Some t) (Some m) (keeps_of m keeps) (read, stands, refl, refl) is
+opens_stops payloads t m keeps (journal, list, (image, finds, is)) = mended_stops JournalA journal.held image _ (Some t) (Some m) (keeps_of m keeps) finds is
 
 opens_rests : (t m : Told) → Opens [] (Some t) (Some m) → RestsAt m.trail JournalA []
-opens_rests t m (image, read, stands, is) = open_rests JournalA vacant image _ (Some t) (Some m) (read, stands, refl, refl) is
+opens_rests t m (journal, list, (image, finds, is)) =
+    subst (λ (a : Area). RestsAt m.trail a []) finds.2 (subst (RestsAt m.trail journal.held.area) list (open_rests JournalA journal.held image _ (Some t) (Some m) finds is))
 
 opens_trail : (t m : Told) → Opens [] (Some t) (Some m) → (mend : List Event) × (m.trail ≡ extended t.trail (Synced JournalA ∷ mend))
-opens_trail t m (image, read, stands, is) = (_, trail_of _ m is)
+opens_trail t m (journal, list, (image, finds, is)) = (_, trail_of _ m is)
 
 -- behind the founding more than the first sync was made
 no_first_sync : (mend es : List Event) → IsCut JournalA (Synced JournalA ∷ []) ((Synced JournalA ∷ mend) ++ Founded ∷ es) → ⊥
@@ -169,15 +168,15 @@ module _ (p : Plan) where
   pub stops : IsPayload p.payload → (old new : Option Told) (before behind : Option Book) (result : Result (Unit {0}) SetUpFault) → Keeps new → SetUpAnswers p (tells old before) (tells new behind) result → SetUpStops p old new
   stops ok None new before behind result keeps answers = tt
   stops ok (Some t) None before behind result keeps answers = tt
-  stops ok (Some t) (Some u) before behind (Ok done) keeps (None, opens, is) = absurd (let e = opens.3 in cc)
+  stops ok (Some t) (Some u) before behind (Ok done) keeps (None, opens, is) = absurd (let e = opens.2.2 in cc)
   stops ok (Some t) (Some u) before behind (Ok done) keeps (Some m, opens, is) = storing_stops ok t m u 4 (setup_events p) (keeps u refl) opens (4, inl refl) is.0
   stops ok (Some t) (Some u) before behind (Err Already) keeps ((payloads, some, opens), same) = opened_only t u (opens_stops payloads t u (keeps u refl) opens)
   stops ok (Some t) (Some u) before behind (Err (Damaged at)) keeps ((image, read, damage, is), same) = opened_only t u (synced_stops JournalA 3 (Some t) (Some u) keeps is)
   stops ok (Some t) (Some u) before behind (Err Site) keeps (inl (fails, same)) = disk_stops t u keeps fails
-  stops ok (Some t) (Some u) before behind (Err Site) keeps (inr (None, opens, fails)) = absurd (let e = opens.3 in cc)
+  stops ok (Some t) (Some u) before behind (Err Site) keeps (inr (None, opens, fails)) = absurd (let e = opens.2.2 in cc)
   stops ok (Some t) (Some u) before behind (Err Site) keeps (inr (Some m, opens, fails)) = establishing_stops ok t m u behind (keeps u refl) opens fails
-  stops ok (Some t) (Some u) before behind (Err Memory) keeps (inl fails, same) = memory_stops t u keeps fails
-  stops ok (Some t) (Some u) before behind (Err Memory) keeps (inr opens, same) = opened_only t u (opens_stops [] t u (keeps u refl) opens)
+  stops ok (Some t) (Some u) before behind (Err Memory) keeps (inl (fails, same)) = memory_stops t u keeps fails
+  stops ok (Some t) (Some u) before behind (Err Memory) keeps (inr (opens, same)) = opened_only t u (opens_stops [] t u (keeps u refl) opens)
 
   stored_rests : IsPayload p.payload → (t m u : Told) → KeepsModel u.trail → Opens [] (Some t) (Some m) → Some u ≡ option_map (made 4 (setup_events p)) (option_map (founds p) (Some m)) → RestsAt u.trail JournalA (p.payload ∷ [])
   stored_rests ok t m u keeps opens is =
@@ -190,6 +189,6 @@ module _ (p : Plan) where
   rests ok old new before behind (Err fault) keeps answers = tt
   rests ok old None before behind (Ok done) keeps answers = tt
   rests ok None (Some u) before behind (Ok done) keeps (None, opens, is) = absurd (let e = is.0 in cc)
-  rests ok None (Some u) before behind (Ok done) keeps (Some m, opens, is) = absurd (let e = opens.3 in cc)
-  rests ok (Some t) (Some u) before behind (Ok done) keeps (None, opens, is) = absurd (let e = opens.3 in cc)
+  rests ok None (Some u) before behind (Ok done) keeps (Some m, opens, is) = absurd (let e = opens.2.2 in cc)
+  rests ok (Some t) (Some u) before behind (Ok done) keeps (None, opens, is) = absurd (let e = opens.2.2 in cc)
   rests ok (Some t) (Some u) before behind (Ok done) keeps (Some m, opens, is) = stored_rests ok t m u (keeps u refl) opens is.0

@@ -17,7 +17,7 @@ HasFounded events = (front : List Event) × (behind : List Event) × (events ≡
 
 -- Until the first sync has succeeded, an image of before. From then on, where what was read may be mended, an image that stands for its list, or for the
 -- list that it stands for with 1 in place of its closed gate. Where that list is empty, and only behind the founding, the image may stand for the record of
--- the set-up alone: so a second set-up finds nothing or that record.
+-- the set-up alone: so, where the gate was 0 or not there, a second set-up finds nothing or that record.
 pub record IsInSetUp (p : Plan) (t : Trail) (events : List Event) (image : List ℕ) : Type 0 where
   pub before : IsCut JournalA (Synced JournalA ∷ []) events → IsImage t JournalA image
   pub behind : (rest : List Event) (payloads : List (List ℕ)) → events ≡ Synced JournalA ∷ rest → Stands (seen t JournalA) payloads → IsMendable (seen t JournalA)

@@ -1,19 +1,20 @@
 -- What a set-up answers, and what it leaves.
 use Rattle.std.specs.Prelude.{◌≡◌, ◌≢◌, ◌⊎◌, ℕ, ◌+◌, List, [], ◌∷◌, ◌++◌, length, Option, Some, None, IfSome, OnSome, option_map, Result, Ok, Err}
-use Rattle.satp_base.specs.Acts.{founded}
+use Rattle.satp_base.specs.Acts.{Asks, FoundEvents, FoundsBook, founded}
 use Rattle.satp_base.specs.Calls.{Told, asked, made, FailsAmong}
-use Rattle.satp_base.specs.Format.{Damage, Stands, records}
+use Rattle.satp_base.specs.Format.{Damage, Stands}
 use Rattle.satp_base.specs.Founding.{Founding}
 use Rattle.satp_base.specs.Laws.{RestsAt}
 use Rattle.satp_base.specs.Money.{Book}
-use Rattle.satp_base.specs.Segments.{append_events, open_events}
+use Rattle.satp_base.specs.Segments.{append_events}
 use Rattle.satp_base.specs.Trail.{seen}
 use Rattle.satp_base.specs.declared.area.Area.TheVariants.{JournalA}
 use Rattle.satp_base.specs.declared.area.Event.{Event}
 use Rattle.satp_base.specs.declared.area.Event.TheVariants.{Founded}
 use Rattle.satp_base.specs.declared.ledger.LedgerCall.TheVariants.{Found}
 use Rattle.satp_base.specs.declared.ledger.LedgerKind.{LedgerKind}
-use Rattle.satp_journal.specs.Opening.{IsRead, OpenAnswers, mend_calls}
+use Rattle.satp_journal.specs.Opening.{OpenAnswers}
+use Rattle.satp_journal.specs.State.{JournalState}
 use Rattle.satp_journal.specs.declared.fault.JournalFault.{JournalFault}
 use Rattle.satp_journal.specs.declared.fault.JournalFault.TheVariants as journal
 use Rattle.satp_records.specs.Formats.{payload_of}
@@ -44,15 +45,21 @@ plan setup kind genesis = plan_of (payload_of (stored.Setup setup)) kind genesis
 
 -- ---- the journal
 
--- the journal was opened, and stands for these payloads
+-- the journal was opened, and has these payloads
 abbrev pub Opens : List (List ℕ) → Option Told → Option Told → Type 0
 Opens payloads old new =
-    (image : List ℕ) × IsRead JournalA old image × Stands image payloads
-    × (new ≡ option_map (made (3 + mend_calls image (length (records payloads))) (open_events JournalA image (length (records payloads)))) old)
+    (journal : JournalState) × (journal.held.payloads ≡ payloads) × OpenAnswers JournalA old new (Ok journal)
 
--- the journal was not opened
+-- the opening failed
 abbrev pub FailsToOpen : JournalFault → Option Told → Option Told → Type 0
 FailsToOpen fault old new = OpenAnswers JournalA old new (Err fault)
+
+-- There is no open journal without a record: it has some, or the opening failed. The ledger is left alone.
+abbrev pub NotVacant : SetUpFault → Tells → Tells → Type 0
+NotVacant Already old new = ((payloads : List (List ℕ)) × (payloads ≢ []) × Opens payloads old.told new.told) × (new.book ≡ old.book)
+NotVacant (Damaged at) old new = FailsToOpen (journal.Damaged at) old.told new.told × (new.book ≡ old.book)
+NotVacant Site old new = FailsToOpen journal.Disk old.told new.told × (new.book ≡ old.book)
+NotVacant Memory old new = FailsToOpen journal.Memory old.told new.told × (new.book ≡ old.book)
 
 -- ---- the ledger and the record
 
@@ -60,14 +67,19 @@ FailsToOpen fault old new = OpenAnswers JournalA old new (Err fault)
 abbrev pub founds : Plan → Told → Told
 founds p t = asked (Found p.kind p.genesis) (Founded ∷ []) t
 
--- the founding failed: it is told by name, or only counted where no memory was found to note it
+-- the founding failed
 abbrev pub FailsToFound : Plan → Option Told → Option Told → Type 0
-FailsToFound p old new =
-    (events : List Event) × ((events ≡ Founded ∷ []) ⊎ (events ≡ [])) × ((new ≡ option_map (asked (Found p.kind p.genesis) events) old) ⊎ (new ≡ option_map (made 1 events) old))
+FailsToFound p old new = (events : List Event) × FoundEvents failed events × Asks (Found p.kind p.genesis) events failed old new
+  where
+    failed : Result (Unit {0}) (Unit {0})
+    failed = Err tt
 
--- the ledger that is told is the genesis, and a site that tells tells it
+-- the ledger that is told is the genesis
 abbrev pub TellsGenesis : Plan → Tells → Type 0
-TellsGenesis p new = OnSome new.told (new.book ≡ Some (founded p.genesis)) × IfSome new.book (λ b. b ≡ founded p.genesis)
+TellsGenesis p new = FoundsBook p.genesis done new.told new.book
+  where
+    done : Result (Unit {0}) (Unit {0})
+    done = Ok tt
 
 abbrev pub setup_events : Plan → List Event
 setup_events p = append_events JournalA 0 p.payload
@@ -87,12 +99,10 @@ FailsToEstablish p old new =
 -- The journal is opened. Where it has no record, memory is taken first; then the ledger is founded, and then the record is stored.
 abbrev pub SetUpAnswers : Plan → Tells → Tells → Result (Unit {0}) SetUpFault → Type 0
 SetUpAnswers p old new (Ok done) = (opened : Option Told) × Opens [] old.told opened × Establishes p opened new
-SetUpAnswers p old new (Err Already) = ((payloads : List (List ℕ)) × (payloads ≢ []) × Opens payloads old.told new.told) × (new.book ≡ old.book)
-SetUpAnswers p old new (Err (Damaged at)) = FailsToOpen (journal.Damaged at) old.told new.told × (new.book ≡ old.book)
-SetUpAnswers p old new (Err Site) =
-    (FailsToOpen journal.Disk old.told new.told × (new.book ≡ old.book))
-    ⊎ ((opened : Option Told) × Opens [] old.told opened × FailsToEstablish p opened new)
-SetUpAnswers p old new (Err Memory) = (FailsToOpen journal.Memory old.told new.told ⊎ Opens [] old.told new.told) × (new.book ≡ old.book)
+SetUpAnswers p old new (Err Already) = NotVacant Already old new
+SetUpAnswers p old new (Err (Damaged at)) = NotVacant (Damaged at) old new
+SetUpAnswers p old new (Err Site) = NotVacant Site old new ⊎ ((opened : Option Told) × Opens [] old.told opened × FailsToEstablish p opened new)
+SetUpAnswers p old new (Err Memory) = NotVacant Memory old new ⊎ (Opens [] old.told new.told × (new.book ≡ old.book))
 
 -- this answer, unless a call failed or no memory was found
 abbrev pub UnlessFailed : Result (Unit {0}) SetUpFault → Result (Unit {0}) SetUpFault → Type 0

@@ -4,7 +4,7 @@ use Rattle.satp_base.specs.declared.area.Area.TheVariants.{JournalA}
 use Rattle.satp_journal.specs.State.{Held, JournalState}
 use Rattle.satp_journal.specs.declared.fault.JournalFault.{JournalFault}
 use Rattle.satp_journal.specs.declared.fault.JournalFault.TheVariants as journal
-use Rattle.satp_gateway.specs.SettingUp.{FailsToOpen, Opens, Tells}
+use Rattle.satp_gateway.specs.SettingUp.{NotVacant, Opens, Tells}
 use Rattle.satp_gateway.specs.declared.fault.SetUpFault.{SetUpFault}
 use Rattle.satp_gateway.specs.declared.fault.SetUpFault.TheVariants.{Already, Damaged, Site, Memory}
 
@@ -22,7 +22,4 @@ set_up_fault journal.Broken = Site
 -- the journal was opened and has no record, or it is answered why not
 abbrev pub OpensVacant : Tells → Tells → Result JournalState SetUpFault → Type 0
 OpensVacant old new (Ok journal) = Opens [] old.told new.told × (new.book ≡ old.book)
-OpensVacant old new (Err Already) = ((payloads : List (List ℕ)) × (payloads ≢ []) × Opens payloads old.told new.told) × (new.book ≡ old.book)
-OpensVacant old new (Err (Damaged at)) = FailsToOpen (journal.Damaged at) old.told new.told × (new.book ≡ old.book)
-OpensVacant old new (Err Site) = FailsToOpen journal.Disk old.told new.told × (new.book ≡ old.book)
-OpensVacant old new (Err Memory) = FailsToOpen journal.Memory old.told new.told × (new.book ≡ old.book)
+OpensVacant old new (Err fault) = NotVacant fault old new

@@ -10,7 +10,7 @@ use Rattle.satp_http.specs.declared.answer_head.AnswerFraming.{AnswerFraming}
 use Rattle.satp_http.specs.Heads.{Sender, server, Head, head_bytes, header_lines}
 use Rattle.satp_http.specs.Table.{table, first_fault, body_length, answer_parts, is_interim, is_bodiless, interim_after}
 use Rattle.satp_http.specs.Found.{IsHeadAt, FramesAnswer}
-use Rattle.satp_http.specs.HttpText.{Sent, sent_bytes, IsSent, Awaits, HasFault}
+use Rattle.satp_http.specs.HttpText.{Sent, sent_bytes, IsSent, HasFault}
 use Rattle.satp_http.specs.Feeds.{IsStuck, BeginsWith, Passes, BeginsWithAnswer}
 use Rattle.satp_http.proofs.WindowLemmas.{slice_is}
 use Rattle.satp_http.proofs.HeadParts.{blank_of, start_of, last_of, head_is}
@@ -31,12 +31,6 @@ begins by n bytes head start size body at clean is fits body_is =
       record { head = at.head_is; clean = clean; body = whole ∙ is },
       at.bytes_are ∙ ap (λ (l : List ℕ). head_bytes by head ++ l) (sym (take-append-drop size rest) ∙ ap (λ (l : List ℕ). l ++ drop size rest) (sym body_is)) ∙ sym (append_assoc (head_bytes by head) body (drop size rest)),
     )
-
--- a head whose body isn't whole
-pub awaits : (by : Sender) (n : ℕ) (bytes : List ℕ) (head : Head by) (start size : ℕ) → IsHeadAt by bytes start head → first_fault (table by n head) ≡ None → size ≡ body_length by head
-    → length bytes < start + size → Awaits by n head bytes
-awaits by n bytes head start size at clean is short =
-    record { head_is = at.head_is; clean = clean; rest = drop start bytes; bytes_are = at.bytes_are; less = omega (arith, short, is, length-drop start bytes, at.fits) }
 
 -- heads aren't empty
 pub some_bytes : (by : Sender) (head : Head by) → 0 < length (head_bytes by head)

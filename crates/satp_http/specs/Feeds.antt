@@ -7,13 +7,13 @@ use Rattle.satp_http.specs.declared.fault.HttpFault.TheVariants.{Memory}
 use Rattle.satp_http.specs.declared.requests.Taken.{Taken}
 use Rattle.satp_http.specs.declared.requests.Taken.TheVariants.{More, Continue, Request}
 use Rattle.satp_http.specs.declared.responses.Answered.{Answered}
-use Rattle.satp_http.specs.Heads.{Sender, client, server}
+use Rattle.satp_http.specs.Heads.{Sender, client, server, room}
 use Rattle.satp_http.specs.Table.{request_parts, expects}
 use Rattle.satp_http.specs.HttpText.{Sent, sent_bytes, IsSent, AreSent, interim_behind, asked_of, HasFault, IsUnfinished, IsPart, Awaits}
 
 -- what fits was added
 pub record Adds (piece old new : List ℕ) (count : ℕ) : Type 0 where
-  pub count_is : count ≡ min (length piece) (16384 - length old)
+  pub count_is : count ≡ min (length piece) (room - length old)
   pub bytes_are : new ≡ old ++ take count piece
 
 -- the fault that was found stands at the front

@@ -1,5 +1,5 @@
 -- What is found at the front of the bytes.
-use Rattle.std.specs.Prelude.{◌≡◌, ◌≤◌, ◌<◌, ℕ, ◌==◌, ◌&&◌, Bool, nat_lt, List, [], ◌∷◌, ◌++◌, length, drop, Some, None, if◌then◌else◌}
+use Rattle.std.specs.Prelude.{◌≡◌, ◌≤◌, ◌<◌, ℕ, ◌+◌, ◌==◌, ◌&&◌, Bool, nat_lt, List, [], ◌∷◌, ◌++◌, length, drop, Some, None, if◌then◌else◌}
 use Rattle.std.specs.List.{count_by}
 use Rattle.httparse.specs.Ascii.{line_feed, carriage_return}
 use Rattle.httparse.specs.Grammar.{RequestHead, ResponseHead}
@@ -11,7 +11,7 @@ use Rattle.satp_http.specs.declared.request_head.Framing.{Framing}
 use Rattle.satp_http.specs.declared.answer_head.AnswerFraming.{AnswerFraming}
 use Rattle.satp_http.specs.declared.responses.Front.{Front}
 use Rattle.satp_http.specs.Feeds.{Passes}
-use Rattle.satp_http.specs.Heads.{Sender, client, server, Head, head_bytes}
+use Rattle.satp_http.specs.Heads.{Sender, client, server, Head, head_bytes, longest, most_interim, most_lines}
 use Rattle.satp_http.specs.LineLists.{lines_of}
 use Rattle.satp_http.specs.Table.{RequestParts, AnswerParts, request_parts, answer_parts, request_table, answer_table, first_fault, request_length, answer_length, expects, closes}
 use Rattle.satp_http.specs.HttpText.{IsHead, HasFault, IsPart}
@@ -29,9 +29,9 @@ behind_empty_lines (a ∷ b ∷ bytes) =
 abbrev pub line_feeds : List ℕ → ℕ
 line_feeds bytes = count_by (λ b. b == line_feed) bytes
 
--- the start line and more than 64 lines behind it end in these bytes
+-- the start line and more lines behind it than a head may have end in these bytes
 abbrev pub has_many_lines : List ℕ → Bool
-has_many_lines bytes = nat_lt 65 (line_feeds (behind_empty_lines bytes))
+has_many_lines bytes = nat_lt (most_lines + 1) (line_feeds (behind_empty_lines bytes))
 
 -- ---- heads
 
@@ -48,7 +48,7 @@ pub record FramesRequest (p : RequestParts) (framing : Framing) : Type 0 where
   pub length_is : framing.length ≡ request_length p
   pub close : framing.close ≡ closes p
   pub expects_is : framing.expects ≡ expects p
-  pub bound : framing.length ≤ 8192
+  pub bound : framing.length ≤ longest
 
 abbrev pub IsRequestFault : RequestParts → HttpFault → Type 0
 IsRequestFault p f = first_fault (request_table p) ≡ Some f
@@ -58,8 +58,8 @@ pub record FramesAnswer (interim : ℕ) (p : AnswerParts) (framing : AnswerFrami
   pub clean : first_fault (answer_table interim p) ≡ None
   pub code_is : framing.code ≡ p.code
   pub length_is : framing.length ≡ answer_length p
-  pub bound : framing.length ≤ 8192
-  pub few : framing.code ≡ 100 → interim < 16
+  pub bound : framing.length ≤ longest
+  pub few : framing.code ≡ 100 → interim < most_interim
 
 abbrev pub IsAnswerFault : ℕ → AnswerParts → HttpFault → Type 0
 IsAnswerFault interim p f = first_fault (answer_table interim p) ≡ Some f

@@ -1,7 +1,27 @@
 -- The heads of requests and of answers, in httparse's grammar (RFC 9112, sections 2 to 5).
-use Rattle.std.specs.Prelude.{◌≡◌, ◌<◌, ◌⊎◌, ℕ, List, [], ◌∷◌, ◌++◌, length}
+use Rattle.std.specs.Prelude.{◌≡◌, ◌+◌, ◌<◌, ◌⊎◌, ℕ, List, [], ◌∷◌, ◌++◌, length}
 use Rattle.httparse.specs.Ascii.{line_feed}
 use Rattle.httparse.specs.Grammar.{Field, RequestHead, IsRequestHead, print_request, EndsInTarget, ResponseHead, IsResponseHead, print_response}
+
+-- ---- limits
+
+-- the most bytes of a head, and of a body
+abbrev pub longest : ℕ
+longest = 8192
+
+-- the most header lines of a head
+abbrev pub most_lines : ℕ
+most_lines = 64
+
+-- the most bytes that are held: a head and a body
+abbrev pub room : ℕ
+room = longest + longest
+
+-- the most answers of code 100 in a row
+abbrev pub most_interim : ℕ
+most_interim = 16
+
+-- ---- heads
 
 -- a client sends requests, and a server answers
 pub data Sender : Type 0 where

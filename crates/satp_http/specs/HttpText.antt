@@ -2,7 +2,7 @@
 use Rattle.std.specs.Prelude.{◌≡◌, ◌≤◌, ◌<◌, ◌⊎◌, ℕ, List, [], ◌∷◌, ◌++◌, length, take, map, Option, Some, None, if◌then◌else◌}
 use Rattle.std.specs.List.{flat_map}
 use Rattle.httparse.specs.Grammar.{status_code}
-use Rattle.satp_http.specs.Heads.{Sender, client, server, Head, IsGrammatical, head_bytes, header_lines, HasNone, NeverHas, HasOver, MayBecome}
+use Rattle.satp_http.specs.Heads.{Sender, client, server, Head, IsGrammatical, head_bytes, header_lines, HasNone, NeverHas, HasOver, MayBecome, longest, most_lines}
 use Rattle.satp_http.specs.Table.{table, first_fault, body_length, interim_after, request_parts, closes, is_interim}
 use Rattle.satp_http.specs.declared.fault.HttpFault.{HttpFault}
 use Rattle.satp_http.specs.declared.fault.HttpFault.TheVariants as fault
@@ -12,8 +12,8 @@ use Rattle.satp_http.specs.declared.responses.Answered.{Answered}
 -- a head of the grammar within the limits
 pub record IsHead (by : Sender) (head : Head by) : Type 0 where
   pub parts : IsGrammatical by head
-  pub short : length (head_bytes by head) ≤ 8192
-  pub few : length (header_lines by head) ≤ 64
+  pub short : length (head_bytes by head) ≤ longest
+  pub few : length (header_lines by head) ≤ most_lines
 
 -- a head and a body
 pub record Sent (by : Sender) : Type 0 where
@@ -40,13 +40,13 @@ interim_behind by interim (sent ∷ more) = interim_behind by (interim_after by 
 
 -- the bytes in which a head has to end
 abbrev pub window : List ℕ → List ℕ
-window bytes = take 8192 bytes
+window bytes = take longest bytes
 
 -- The bytes begin with no head within the limits. Two of the three may stand together, and then either is the fault.
 abbrev pub HasNoHead : Sender → List ℕ → HttpFault → Type 0
 HasNoHead by bytes fault.Head = NeverHas by (window bytes)
-HasNoHead by bytes fault.ManyHeaders = HasOver by 64 (window bytes)
-HasNoHead by bytes fault.HeadLong = (8192 ≤ length bytes) × HasNone by (window bytes)
+HasNoHead by bytes fault.ManyHeaders = HasOver by most_lines (window bytes)
+HasNoHead by bytes fault.HeadLong = (longest ≤ length bytes) × HasNone by (window bytes)
 HasNoHead by bytes f = ⊥
 
 -- the bytes begin with a head, and this is the first row of the table that holds of it
@@ -61,9 +61,9 @@ HasFault by interim bytes f = HasNoHead by bytes f ⊎ HasBadHead by interim byt
 
 -- no head yet, and one may come
 pub record IsPart (by : Sender) (bytes : List ℕ) : Type 0 where
-  pub short : length bytes < 8192
+  pub short : length bytes < longest
   pub none : HasNone by bytes
-  pub few : ¬ (HasOver by 64 bytes)
+  pub few : ¬ (HasOver by most_lines bytes)
   pub begun : MayBecome by bytes
 
 -- a head without a fault, and less than its body

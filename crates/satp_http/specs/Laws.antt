@@ -5,7 +5,7 @@ use Rattle.satp_http.specs.declared.fault.HttpFault.{HttpFault}
 use Rattle.satp_http.specs.declared.fault.HttpFault.TheVariants as fault
 use Rattle.satp_http.specs.declared.requests.Asked.{Asked}
 use Rattle.satp_http.specs.declared.responses.Answered.{Answered}
-use Rattle.satp_http.specs.Heads.{Sender, client, server, NeverHas, EndsWithin}
+use Rattle.satp_http.specs.Heads.{Sender, client, server, NeverHas, EndsWithin, longest}
 use Rattle.satp_http.specs.HttpText.{HasNoHead, window, HttpRequests, HttpAnswers}
 use Rattle.satp_http.specs.Feeds.{RequestFeed, no_requests, TakesRequest, AnswerFeed, no_answers, TakesAnswer}
 use Rattle.satp_http.specs.Runs.{RequestTaken, AnswerTaken, Call, came, RequestRun, requests_taken, SaysRequestsEnd, AnswerRun, answers_taken, SaysAnswersEnd}
@@ -81,12 +81,12 @@ AnswerFaultInEachCutting =
 abbrev pub WrittenRequestIsRead : Type 0
 WrittenRequestIsRead =
     (at body more : List ℕ) (requests : List Asked) (end : Option HttpFault)
-    → IsTrue (is_address at) → length body ≤ 8192 → HttpRequests requests end more
+    → IsTrue (is_address at) → length body ≤ longest → HttpRequests requests end more
     → HttpRequests (record { body = body; close = false } ∷ requests) end (request_text at body ++ more)
 
 -- An answer that was written is read as that one answer, whatever follows it.
 abbrev pub WrittenAnswerIsRead : Type 0
 WrittenAnswerIsRead =
     (code : ℕ) (body more : List ℕ) (close : Bool) (answers : List Answered) (end : Option HttpFault)
-    → IsTrue (is_answer_code code) → (code ≡ 204 → body ≡ []) → length body ≤ 8192 → HttpAnswers answers end more
+    → IsTrue (is_answer_code code) → (code ≡ 204 → body ≡ []) → length body ≤ longest → HttpAnswers answers end more
     → HttpAnswers (record { code = code; body = body } ∷ answers) end (response_text code body close ++ more)

@@ -3,7 +3,7 @@ use Rattle.std.specs.Prelude.{ℕ, ◌+◌, Bool, not, ◌==◌, ◌&&◌, ◌||
 use Rattle.std.specs.List.{list_any}
 use Rattle.httparse.specs.Grammar.{RequestHead, ResponseHead, status_code}
 use Rattle.httparse.specs.Spans.{name_and_value}
-use Rattle.satp_http.specs.Heads.{Sender, client, server, Head}
+use Rattle.satp_http.specs.Heads.{Sender, client, server, Head, longest, most_interim}
 use Rattle.satp_http.specs.Lines.{Line, values_of, has_other, agreed, lists}
 use Rattle.satp_http.specs.declared.fault.HttpFault.{HttpFault}
 use Rattle.satp_http.specs.declared.fault.HttpFault.TheVariants as fault
@@ -45,7 +45,7 @@ request_table p =
     ∷ (has_other (codes "100-continue") (values_of (codes "expect") p.lines), fault.Expect)
     ∷ (length (lengths p.lines) == 0, fault.LengthMissing)
     ∷ (is_none (agreed (lengths p.lines)), fault.LengthBad)
-    ∷ (nat_lt 8192 (unwrap_or (agreed (lengths p.lines)) 0), fault.BodyLong (unwrap_or (agreed (lengths p.lines)) 0))
+    ∷ (nat_lt longest (unwrap_or (agreed (lengths p.lines)) 0), fault.BodyLong (unwrap_or (agreed (lengths p.lines)) 0))
     ∷ []
 
 -- an interim answer: a final one follows it
@@ -60,12 +60,12 @@ is_bodiless code = (code == 100) || (code == 204)
 abbrev pub answer_table : ℕ → AnswerParts → List (Bool × HttpFault)
 answer_table interim p =
     (not (p.minor == 1), fault.Version)
-    ∷ (is_interim p.code && nat_le 16 interim, fault.Interim)
+    ∷ (is_interim p.code && nat_le most_interim interim, fault.Interim)
     ∷ (nat_lt 0 (length (values_of (codes "transfer-encoding") p.lines)), fault.Chunked)
     ∷ (has_other (codes "identity") (values_of (codes "content-encoding") p.lines), fault.Coding)
     ∷ (not (is_bodiless p.code) && (length (lengths p.lines) == 0), fault.LengthMissing)
     ∷ (not (is_bodiless p.code) && is_none (agreed (lengths p.lines)), fault.LengthBad)
-    ∷ (not (is_bodiless p.code) && nat_lt 8192 (unwrap_or (agreed (lengths p.lines)) 0), fault.BodyLong (unwrap_or (agreed (lengths p.lines)) 0))
+    ∷ (not (is_bodiless p.code) && nat_lt longest (unwrap_or (agreed (lengths p.lines)) 0), fault.BodyLong (unwrap_or (agreed (lengths p.lines)) 0))
     ∷ []
 
 abbrev pub table : (by : Sender) → ℕ → Head by → List (Bool × HttpFault)

@@ -1,8 +1,8 @@
 /// Why bytes are no request, or no answer. Both sides test for the faults in this order, but for
-/// `Interim`, which stands behind `Version`.
+/// `Interim`, which stands behind `Version`. Where two of the first three hold, either may come.
 #[derive(Clone, Copy, Debug, PartialEq, Eq)]
 pub enum HttpFault {
-    /// The bytes are no head of RFC 9112, whatever follows.
+    /// The bytes are no head of `httparse`'s grammar, whatever follows.
     Head,
     /// More than 64 header lines.
     ManyHeaders,

@@ -5,10 +5,10 @@ ghost use Rattle.satp_http.specs.HttpText.{window};
 
 use crate::HttpFault;
 
-/// The longest head, and the longest body.
+/// The most bytes of a head, and of a body.
 pub(crate) const LONGEST: usize = 8192;
 
-/// The most header lines.
+/// The most header lines of a head.
 pub(crate) const MOST_LINES: usize = 64;
 
 /// No head yet, a fault, or a head, with the place where it ends.

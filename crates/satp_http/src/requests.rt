@@ -1,6 +1,7 @@
 // The requests that a connection brings.
 ghost use Rattle.std.specs.Prelude.{◌≡◌, ◌≤◌, ◌<◌, Ok, length, IfOk};
 ghost use Rattle.satp_http.specs.Feeds.{no_requests, Adds, TakesRequest};
+ghost use Rattle.satp_http.specs.Heads.{room};
 ghost use Rattle.satp_http.specs.declared.requests.Taken.TheVariants.{More};
 
 use crate::HttpFault;
@@ -67,7 +68,7 @@ impl Requests {
     pub fn feed(&mut self, piece: &[u8]) -> usize
         ensures adds { Adds piece.now self.old.held self.new.held result }
         ensures rest { self.new ≡ record self.old { held = self.new.held } }
-        ensures most { length self.new.held ≤ 16384 }
+        ensures most { length self.new.held ≤ room }
     {
         self.buffer.add(piece)
     }
@@ -75,7 +76,7 @@ impl Requests {
     /// How many bytes are held.
     pub fn held(&self) -> usize
         ensures held { result ≡ length self.now.held }
-        ensures most { result ≤ 16384 }
+        ensures most { result ≤ room }
     {
         self.buffer.bytes().len()
     }
@@ -83,10 +84,13 @@ impl Requests {
     /// Takes the request at the front, where it is whole. Where it isn't there is room for more bytes.
     ///
     /// A fault comes as soon as the bytes held show it, and is the first of its head in the order of
-    /// `HttpFault`. It is answered again by each later call, but for `Memory`, which changes nothing.
+    /// `HttpFault`, with two exceptions: where two of `Head`, `ManyHeaders` and `HeadLong` hold, either may
+    /// come; and where the bytes end within a target that nothing behind them makes a head's, `Head` may
+    /// come only once the target has ended. A fault is answered again by each later call, but for `Memory`,
+    /// which changes nothing.
     pub fn take(&mut self, alloc: Global) -> Result<Taken, HttpFault>
         ensures takes { TakesRequest self.old self.new result }
-        ensures room { result ≡ Ok More → length self.new.held < 16384 }
+        ensures room { result ≡ Ok More → length self.new.held < room }
     {
         if let Some(fault) = self.stuck {
             return Err(fault);

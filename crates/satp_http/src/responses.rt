@@ -2,6 +2,7 @@
 ghost use Rattle.std.specs.Prelude.{◌≡◌, ◌≤◌, ◌<◌, Ok, None, length, IfOk};
 ghost use Rattle.satp_http.specs.Feeds.{no_answers, Adds, TakesAnswer};
 ghost use Rattle.satp_http.specs.Found.{IsFront};
+ghost use Rattle.satp_http.specs.Heads.{room};
 
 use crate::HttpFault;
 use crate::answer_head::{AnswerFraming, find_answer, is_interim};
@@ -84,7 +85,7 @@ impl Responses {
     pub fn feed(&mut self, piece: &[u8]) -> usize
         ensures adds { Adds piece.now self.old.held self.new.held result }
         ensures rest { self.new ≡ record self.old { held = self.new.held } }
-        ensures most { length self.new.held ≤ 16384 }
+        ensures most { length self.new.held ≤ room }
     {
         self.buffer.add(piece)
     }
@@ -94,11 +95,11 @@ impl Responses {
     ///
     /// A fault comes as soon as the bytes held show it, and is the first of its head in this order: `Head`,
     /// `ManyHeaders`, `HeadLong`, `Version`, `Interim`, `Chunked`, `Coding`, and for codes other than 100 and
-    /// 204 `LengthMissing`, `LengthBad`, `BodyLong`. It is answered again by each later call, but for
-    /// `Memory`, which changes nothing.
+    /// 204 `LengthMissing`, `LengthBad`, `BodyLong`. Where two of the first three hold, either may come. A
+    /// fault is answered again by each later call, but for `Memory`, which changes nothing.
     pub fn take(&mut self, alloc: Global) -> Result<Option<Answered>, HttpFault>
         ensures takes { TakesAnswer self.old self.new result }
-        ensures room { result ≡ Ok None → length self.new.held < 16384 }
+        ensures room { result ≡ Ok None → length self.new.held < room }
     {
         if let Some(fault) = self.stuck {
             return Err(fault);

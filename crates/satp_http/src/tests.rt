@@ -29,18 +29,6 @@ fn cut(alloc: Global, bytes: &[u8], at: usize) -> Result<usize, HttpFault> {
 /// Bytes, and how many requests or answers they are, or their fault.
 type Row = (&'static [u8], Result<usize, HttpFault>);
 
-/// The first row that gives something else, cut after one of its bytes or whole.
-fn first_other_request(alloc: Global, rows: &[Row]) -> Option<&'static [u8]> {
-    for (bytes, wanted) in rows {
-        for at in 0..bytes.len() {
-            if cut(alloc, bytes, at) != *wanted {
-                return Some(bytes);
-            }
-        }
-    }
-    None
-}
-
 /// How many requests come byte for byte, or their fault.
 fn byte_for_byte(alloc: Global, bytes: &[u8]) -> Result<usize, HttpFault> {
     let Ok(mut requests) = Requests::new(alloc) else {
@@ -51,6 +39,39 @@ fn byte_for_byte(alloc: Global, bytes: &[u8]) -> Result<usize, HttpFault> {
         count = count.wrapping_add(feed(alloc, &mut requests, piece)?);
     }
     Ok(count)
+}
+
+/// The first row that gives something else, whole, cut after one of its bytes, or byte for byte.
+fn first_other_request(alloc: Global, rows: &[Row]) -> Option<&'static [u8]> {
+    for (bytes, wanted) in rows {
+        if byte_for_byte(alloc, bytes) != *wanted {
+            return Some(bytes);
+        }
+        for at in 0..bytes.len() {
+            if cut(alloc, bytes, at) != *wanted {
+                return Some(bytes);
+            }
+        }
+    }
+    None
+}
+
+/// Whether a request cut at this byte comes with its second piece, with the body `{}` and on a
+/// connection that stays.
+fn comes_whole(alloc: Global, bytes: &[u8], at: usize) -> Result<bool, HttpFault> {
+    let Ok(mut requests) = Requests::new(alloc) else {
+        return Err(HttpFault::Memory);
+    };
+    let at = at.min(bytes.len());
+    let _ = requests.feed(&bytes[..at]);
+    if !matches!(requests.take(alloc)?, Taken::More) {
+        return Ok(false);
+    }
+    let _ = requests.feed(&bytes[at..]);
+    let Taken::Request(asked) = requests.take(alloc)? else {
+        return Ok(false);
+    };
+    Ok(asked.body.bytes() == b"{}".as_slice() && !asked.close)
 }
 
 /// Feeds a piece, and counts the answers that are whole then.
@@ -76,9 +97,24 @@ fn hear_cut(alloc: Global, bytes: &[u8], at: usize) -> Result<usize, HttpFault> 
     Ok(before.wrapping_add(after))
 }
 
-/// The first row that gives something else, cut after one of its bytes or whole.
+/// How many answers come byte for byte, or their fault.
+fn hear_byte_for_byte(alloc: Global, bytes: &[u8]) -> Result<usize, HttpFault> {
+    let Ok(mut responses) = Responses::new(alloc) else {
+        return Err(HttpFault::Memory);
+    };
+    let mut count: usize = 0;
+    for piece in bytes.chunks(1) {
+        count = count.wrapping_add(hear(alloc, &mut responses, piece)?);
+    }
+    Ok(count)
+}
+
+/// The first row that gives something else, whole, cut after one of its bytes, or byte for byte.
 fn first_other_answer(alloc: Global, rows: &[Row]) -> Option<&'static [u8]> {
     for (bytes, wanted) in rows {
+        if hear_byte_for_byte(alloc, bytes) != *wanted {
+            return Some(bytes);
+        }
         for at in 0..bytes.len() {
             if hear_cut(alloc, bytes, at) != *wanted {
                 return Some(bytes);
@@ -88,11 +124,29 @@ fn first_other_answer(alloc: Global, rows: &[Row]) -> Option<&'static [u8]> {
     None
 }
 
+/// Whether an answer cut at this byte comes with its second piece, with the code 200 and the body `{}`.
+fn answer_comes_whole(alloc: Global, bytes: &[u8], at: usize) -> Result<bool, HttpFault> {
+    let Ok(mut responses) = Responses::new(alloc) else {
+        return Err(HttpFault::Memory);
+    };
+    let at = at.min(bytes.len());
+    let _ = responses.feed(&bytes[..at]);
+    if responses.take(alloc)?.is_some() {
+        return Ok(false);
+    }
+    let _ = responses.feed(&bytes[at..]);
+    let Some(answered) = responses.take(alloc)? else {
+        return Ok(false);
+    };
+    Ok(answered.code == 200 && answered.body.bytes() == b"{}".as_slice())
+}
+
+/// A request as another program writes it.
+const WORKED: &[u8] =
+    b"POST /satp HTTP/1.1\r\nHost: 127.0.0.1:7002\r\nUser-Agent: curl/8.5.0\r\nAccept: */*\r\nContent-Type: application/jose\r\nContent-Length: 2\r\n\r\n{}";
+
 const REQUESTS: [Row; 84] = [
-    (
-        b"POST /satp HTTP/1.1\r\nHost: 127.0.0.1:7002\r\nUser-Agent: curl/8.5.0\r\nAccept: */*\r\nContent-Type: application/jose\r\nContent-Length: 2\r\n\r\n{}",
-        Ok(1),
-    ),
+    (WORKED, Ok(1)),
     (
         b"POST /satp HTTP/1.1\r\nHost: a\r\nContent-Length: 2\r\n\r\n{}POST /satp HTTP/1.1\r\nHost: a\r\nContent-Length: 2\r\n\r\n{}",
         Ok(2),
@@ -434,8 +488,18 @@ fn requests_in_each_cutting(rt: HostRuntime) {
     assert_eq!(rt; first_other_request(rt.alloc(), &REQUESTS), None);
 }
 
+#[test]
+fn worked_request_at_each_cut(rt: HostRuntime) {
+    for at in 0..WORKED.len() {
+        assert_eq!(rt; comes_whole(rt.alloc(), WORKED, at), Ok(true), "at {at}");
+    }
+}
+
+/// An answer as another program writes it.
+const ANSWER: &[u8] = b"HTTP/1.1 200 OK\r\nContent-Length: 2\r\n\r\n{}";
+
 const ANSWERS: [Row; 23] = [
-    (b"HTTP/1.1 200 OK\r\nContent-Length: 2\r\n\r\n{}", Ok(1)),
+    (ANSWER, Ok(1)),
     (b"HTTP/1.1 200\r\nContent-Length: 2\r\n\r\n{}", Ok(1)),
     (
         b"HTTP/1.1 200 OK\r\nContent-Length: 2\r\n\r\n{}HTTP/1.1 409 Conflict\r\nContent-Length: 2\r\n\r\n{}",
@@ -517,6 +581,17 @@ const ANSWERS: [Row; 23] = [
 #[test]
 fn answers_in_each_cutting(rt: HostRuntime) {
     assert_eq!(rt; first_other_answer(rt.alloc(), &ANSWERS), None);
+}
+
+#[test]
+fn answer_at_each_cut(rt: HostRuntime) {
+    for at in 0..ANSWER.len() {
+        assert_eq!(rt;
+            answer_comes_whole(rt.alloc(), ANSWER, at),
+            Ok(true),
+            "at {at}"
+        );
+    }
 }
 
 /// A front, a piece so many times over, and an end.

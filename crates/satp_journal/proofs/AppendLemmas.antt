@@ -1,13 +1,12 @@
 -- An append, as its answer and as a stop leaves it.
-use Rattle.std.proofs.Common.{◌≡◌, ◌≤◌, ◌<◌, ℕ, ◌+◌, List, [], ◌∷◌, ◌++◌, length, take, drop, Option, Some, None, option_map, refl, sym, ap, ◌∙◌, subst, inl, arith, append_assoc, length-append}
-use Rattle.std.specs.List.{fold}
+use Rattle.std.proofs.Common.{◌≡◌, ◌<◌, ℕ, ◌+◌, List, [], ◌∷◌, ◌++◌, length, take, drop, Option, Some, None, option_map, refl, sym, ap, ◌∙◌, subst, inl, arith, append_assoc, length-append}
 use Rattle.std.proofs.lemmas.List.{take-append-drop}
 use Rattle.std.proofs.lemmas.List.Sums.{fold-append}
 use Rattle.satp_base.specs.declared.area.Area.{Area}
 use Rattle.satp_base.specs.declared.area.Event.{Event}
 use Rattle.satp_base.specs.Calls.{Told, made, FailsAmong}
 use Rattle.satp_base.specs.Format.{IsPayload, counted, records}
-use Rattle.satp_base.specs.Laws.{RestsAt, IsInAppend}
+use Rattle.satp_base.specs.Laws.{RestsAt}
 use Rattle.satp_base.specs.Segments.{IsCut, append_events}
 use Rattle.satp_base.specs.Trail.{Trail, Standing, KeepsFrom, KeepsModel, extended, next, overlaid, seen, settled}
 use Rattle.satp_base.proofs.Appends.{records-push}
@@ -16,7 +15,7 @@ use Rattle.satp_base.proofs.Cuts.{cut_front}
 use Rattle.satp_base.proofs.Made.{among_cut, append_changes, made_none}
 use Rattle.satp_base.proofs.Standings.{keeps_split, length-overlaid, same_area_refl}
 use Rattle.satp_journal.specs.State.{Held, Fits, gate_of}
-use Rattle.satp_journal.specs.Appending.{AtEach, AppendStops, RestsStill, events_of}
+use Rattle.satp_journal.specs.Appending.{AppendStops, RestsStill, events_of}
 
 -- what a device tells keeps the disk model
 abbrev pub Keeps : Option Told → Type 0

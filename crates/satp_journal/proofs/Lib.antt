@@ -3,3 +3,4 @@ pub mod Failing
 pub mod Scanning
 pub mod AppendLemmas
 pub mod OpenLemmas
+pub mod Copying

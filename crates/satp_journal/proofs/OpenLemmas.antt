@@ -1,5 +1,5 @@
 -- An opening, as its answer and as a stop leaves it.
-use Rattle.std.proofs.Common.{◌≡◌, ◌≤◌, ◌<◌, ◌⊎◌, ℕ, zero, suc, ◌+◌, Bool, true, false, if◌then◌else◌, List, [], ◌∷◌, ◌++◌, length, take, Option, Some, None, option_map, refl, sym, ap, ◌∙◌, subst, inl, inr, ⊎_elim, arith, length-append}
+use Rattle.std.proofs.Common.{◌≡◌, ℕ, zero, suc, ◌+◌, Bool, true, false, if◌then◌else◌, List, [], ◌∷◌, length, take, Option, Some, None, option_map, refl, sym, ap, ◌∙◌, subst, inl, ⊎_elim, arith, length-append}
 use Rattle.std.specs.Prelude.{slice_get}
 use Rattle.std.proofs.lemmas.List.{take_all}
 use Rattle.satp_base.specs.declared.area.Area.{Area}
@@ -9,7 +9,7 @@ use Rattle.satp_base.specs.Calls.{Told, made, FailsAmong}
 use Rattle.satp_base.specs.Format.{records, Stands}
 use Rattle.satp_base.specs.Laws.{RestsAt}
 use Rattle.satp_base.specs.Segments.{IsChangeOf, IsCut, mend_events, open_events, shut_events, wants_gate}
-use Rattle.satp_base.specs.Trail.{Trail, IsImage, KeepsModel, extended, seen, settled}
+use Rattle.satp_base.specs.Trail.{Trail, IsImage, KeepsModel, extended, seen}
 use Rattle.satp_base.proofs.Cuts.{cut_front, cut_left, cut_right}
 use Rattle.satp_base.proofs.Made.{among_cut, made-made, open_changes}
 use Rattle.satp_base.proofs.Opens.{open_begins, open_leaves, open_ends}

@@ -1,8 +1,8 @@
 -- How far a walk over the records of an image has come.
-use Rattle.std.proofs.Common.{◌≡◌, ◌≢◌, ◌≤◌, ◌<◌, ◌⊎◌, ℕ, suc, ◌+◌, ◌-◌, List, [], ◌∷◌, ◌++◌, length, take, drop, get_or, refl, sym, ap, ◌∙◌, inl, inr, arith, append_assoc, length-append}
+use Rattle.std.proofs.Common.{◌≡◌, ◌≢◌, ◌≤◌, ◌<◌, ℕ, suc, ◌+◌, ◌-◌, List, [], ◌∷◌, ◌++◌, length, take, drop, get_or, refl, sym, ap, ◌∙◌, inr, arith, append_assoc, length-append}
 use Rattle.std.proofs.lemmas.List.{take_all}
 use Rattle.std.specs.List.{AllByRecursion}
-use Rattle.satp_base.specs.Format.{IsPayload, counted, records, EndsAt, Stands, Breaks, Damage, SplitsOff, NoRecord}
+use Rattle.satp_base.specs.Format.{IsPayload, counted, records, Stands, Breaks, Damage, SplitsOff, NoRecord}
 use Rattle.satp_base.proofs.Appends.{records-push, valid-push}
 
 pub record IsScanning (image : List ℕ) (payloads : List (List ℕ)) (rest : List ℕ) (gate : ℕ) : Type 0 where

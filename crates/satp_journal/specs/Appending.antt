@@ -1,5 +1,5 @@
 -- What an append answers, and what a stop leaves of it.
-use Rattle.std.specs.Prelude.{◌≡◌, ◌<◌, ◌⊎◌, ℕ, true, false, List, [], ◌∷◌, ◌++◌, length, take, Option, IfSome, option_map, Result, Ok, Err}
+use Rattle.std.specs.Prelude.{◌≡◌, ℕ, true, false, List, [], ◌∷◌, ◌++◌, take, Option, IfSome, option_map, Result, Ok, Err}
 use Rattle.satp_base.specs.declared.area.Area.{Area}
 use Rattle.satp_base.specs.declared.area.Event.{Event}
 use Rattle.satp_base.specs.Calls.{Told, made, FailsAmong}

@@ -1,5 +1,5 @@
 -- Payloads as bytes behind one another, with the place of each one's end.
-use Rattle.std.specs.Prelude.{◌≡◌, ◌≤◌, ℕ, zero, suc, ◌-◌, List, [], ◌∷◌, length, take, drop}
+use Rattle.std.specs.Prelude.{◌≡◌, ◌≤◌, ℕ, zero, suc, ◌-◌, List, [], ◌∷◌, take, drop}
 
 -- the bytes cut at these places
 abbrev pub pieces : ℕ → List ℕ → List ℕ → List (List ℕ)

@@ -59,7 +59,7 @@ impl Journal {
         };
         let found = match scan(alloc, &image) {
             Ok(found) => found,
-            Err(fault) => return Err(fault),
+            Err(unread) => return Err(JournalFault::from(unread)),
         };
         match mend(disk, area, &image, found.gate) {
             Ok(()) => Ok(Journal::of(area, found)),

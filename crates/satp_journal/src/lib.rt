@@ -15,6 +15,6 @@ mod store;
 #[cfg(test)]
 mod tests;
 
-pub use fault::JournalFault;
+pub use fault::{JournalFault, Unread};
 pub use journal::Journal;
-pub use list::{Unread, payloads};
+pub use list::payloads;

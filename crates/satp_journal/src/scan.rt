@@ -1,8 +1,9 @@
 ghost use Rattle.std.specs.Prelude.{◌≡◌, ◌≤◌, ◌<◌, ◌+◌, length, MatchResult, MatchOption};
 ghost use Rattle.satp_base.specs.Format.{NoRecord, SplitsOff};
-ghost use Rattle.satp_journal.specs.Scanned.{IsScanned, IsScanFault};
+ghost use Rattle.satp_journal.specs.Listing.{IsUnread};
+ghost use Rattle.satp_journal.specs.Scanned.{IsScanned};
 
-use crate::fault::JournalFault;
+use crate::fault::Unread;
 use crate::stock::Stock;
 use std::alloc::Global;
 
@@ -17,8 +18,8 @@ pub struct Scanned {
 }
 
 /// The list that an image stands for.
-pub fn scan(alloc: Global, image: &[u8]) -> Result<Scanned, JournalFault>
-    ensures { MatchResult result (IsScanned image.now) (IsScanFault image.now) }
+pub fn scan(alloc: Global, image: &[u8]) -> Result<Scanned, Unread>
+    ensures { MatchResult result (IsScanned image.now) (IsUnread image.now) }
 {
     let mut stock = Stock::new(alloc);
     let mut rest = image;
@@ -29,7 +30,10 @@ pub fn scan(alloc: Global, image: &[u8]) -> Result<Scanned, JournalFault>
                 break;
             }
             let Some((payload, tail)) = first_record(behind) else {
-                return Err(JournalFault::Damaged { at: gate as u64 });
+                return Err(Unread::Damaged {
+                    at: gate as u64,
+                    index: stock.len(),
+                });
             };
             stock.reserve(1, payload.len())?;
             stock.push(payload);

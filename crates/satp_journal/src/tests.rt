@@ -4,7 +4,7 @@ use std::alloc::Global;
 /// Bytes of an area, the number of payloads that they stand for, and the last of them.
 #[test]
 fn reads_the_list_of_an_image(rt: HostRuntime) {
-    let table: [(&[u8], usize, &[u8]); 8] = [
+    let table: [(&[u8], usize, &[u8]); 9] = [
         (b"", 0, b""),
         (b"\x00", 0, b""),
         (b"\x01", 0, b""),
@@ -13,6 +13,11 @@ fn reads_the_list_of_an_image(rt: HostRuntime) {
         (b"\x01\x00\x03abc\x07\x00\x01d\x00", 1, b"abc"),
         (b"\x01\x00\x03abc\x01\x00\x01d\x00", 2, b"d"),
         (b"\x01\x00\x01a\x00", 1, b"a"),
+        (
+            b"\x01\x00\x0b\x06\x05alpha\x00\x00\x00\x01\x00",
+            1,
+            b"\x06\x05alpha\x00\x00\x00\x01",
+        ),
     ];
     for (image, count, last) in table {
         assert!(rt; is_list(rt.alloc(), image, count, last));

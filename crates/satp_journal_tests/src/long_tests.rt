@@ -4,6 +4,7 @@ ghost use Rattle.satp_journal.specs.State.{Fits};
 use satp_base::{Area, Disk};
 use satp_journal::{Journal, JournalFault};
 use satp_memory::MemDisk;
+use std::test::Fail;
 
 /// A journal on its disk.
 #[derive(Drop)]
@@ -24,30 +25,21 @@ impl<D: Disk> Written<D> {
 
 /// Two thousand records of two bytes each, the number of the record.
 #[test]
-fn a_long_journal_is_opened_again(rt: HostRuntime) {
-    let Ok(mut disk) = MemDisk::new(rt.alloc()) else {
-        return;
-    };
-    let opened = Journal::open(rt.alloc(), &mut disk, Area::JournalA);
-    assert!(rt; opened.is_ok());
-    let Ok(journal) = opened else {
-        return;
-    };
+fn a_long_journal_is_opened_again(rt: HostRuntime) -> Result<(), Fail> {
+    let mut disk = MemDisk::new(rt.alloc())?;
+    let journal = Journal::open(rt.alloc(), &mut disk, Area::JournalA)?;
     let mut written = Written { disk, journal };
     for number in 0..2000_u16 {
         let payload = [(number / 256) as u8, (number % 256) as u8];
         assert_eq!(rt; written.append(&payload), Ok(()));
     }
     let Written { mut disk, .. } = written;
-    let again = Journal::open(rt.alloc(), &mut disk, Area::JournalA);
-    assert!(rt; again.is_ok());
-    let Ok(again) = again else {
-        return;
-    };
+    let again = Journal::open(rt.alloc(), &mut disk, Area::JournalA)?;
     assert_eq!(rt; again.count(), 2000);
     assert!(rt; is_at(&again, 0, &[0, 0]));
     assert!(rt; is_at(&again, 300, &[1, 44]));
     assert!(rt; is_at(&again, 1999, &[7, 207]));
+    Ok(())
 }
 
 fn is_at(journal: &Journal, index: usize, expected: &[u8]) -> bool {

@@ -14,7 +14,7 @@ struct Opening {
 }
 
 /// An opening is a sync, a look at the length and a read. Two calls more write and sync a gate of 0: where there is no byte, and where the gate behind the list is neither open nor 0, or the only byte.
-const OPENINGS: [Opening; 9] = [
+const OPENINGS: [Opening; 10] = [
     Opening {
         image: b"",
         count: 0,
@@ -70,6 +70,13 @@ const OPENINGS: [Opening; 9] = [
         last: b"d",
         calls: 3,
         left: b"\x01\x00\x03abc\x01\x00\x01d\x00",
+    },
+    Opening {
+        image: b"\x01\x00\x0b\x06\x05alpha\x00\x00\x00\x01\x00",
+        count: 1,
+        last: b"\x06\x05alpha\x00\x00\x00\x01",
+        calls: 3,
+        left: b"\x01\x00\x0b\x06\x05alpha\x00\x00\x00\x01\x00",
     },
     Opening {
         image: b"\x02\x01\x00",

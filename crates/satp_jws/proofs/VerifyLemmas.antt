@@ -4,10 +4,11 @@ use Rattle.std.specs.Str.{bytes_eq}
 use Rattle.std.specs.Cmp.Lexicographic.{same_text}
 use Rattle.std.proofs.lemmas.Cmp.{nat_list_eq_equiv}
 use Rattle.base64.specs.GeneralPurpose.{IsBytes}
+use Rattle.satp_base.specs.Faults.{or_else}
 use Rattle.satp_base.specs.Signatures.{encoded, hmac, jws, signing_input}
 use Rattle.satp_base.proofs.HashLemmas.{hash_bytes}
 use Rattle.satp_base.proofs.SignatureLemmas.{no_stop_encoded}
-use Rattle.satp_jws.specs.Faults.{bytes_of, decoded, header_fault, header_in, header_of, jws_fault, or_fault, part_fault, parts_fault, parts_of, payload_in, payload_of, signature_fault, three_fault}
+use Rattle.satp_jws.specs.Faults.{bytes_of, decoded, header_fault, header_in, header_of, jws_fault, part_fault, parts_fault, parts_of, payload_in, payload_of, signature_fault, three_fault}
 use Rattle.satp_jws.specs.Reading.{Reads}
 use Rattle.satp_jws.specs.declared.verifying.Verified.{Verified}
 use Rattle.satp_jws.specs.declared.fault.JwsFault.{JwsFault}
@@ -22,10 +23,10 @@ bytes_decoded part bytes e = rw e
 no_part_fault : (number : ℕ) (part bytes : List ℕ) → decoded part ≡ Some bytes → part_fault number part ≡ None
 no_part_fault number part bytes e = rw e
 
-passed : (o p : Option JwsFault) → o ≡ None → or_fault o p ≡ p
+passed : (o p : Option JwsFault) → o ≡ None → or_else o p ≡ p
 passed o p e = rw e
 
-stopped : (o p : Option JwsFault) (fault : JwsFault) → o ≡ Some fault → or_fault o p ≡ Some fault
+stopped : (o p : Option JwsFault) (fault : JwsFault) → o ≡ Some fault → or_else o p ≡ Some fault
 stopped o p fault e = rw e
 
 pub first_fault : (key a b c : List ℕ) (fault : JwsFault) → part_fault 1 a ≡ Some fault → three_fault key a b c ≡ Some fault
@@ -44,12 +45,12 @@ third_fault key a b c header payload fault first second e =
 
 -- the tests that are left where all parts decode
 pub later_fault : (key a b c header payload signature : List ℕ) → decoded a ≡ Some header → decoded b ≡ Some payload → decoded c ≡ Some signature
-    → three_fault key a b c ≡ or_fault (header_fault header) (cond (bytes_eq signature (hmac key (a ++ 46 ∷ b))) None (Some Signature))
+    → three_fault key a b c ≡ or_else (header_fault header) (cond (bytes_eq signature (hmac key (a ++ 46 ∷ b))) None (Some Signature))
 unfolding three_fault
 later_fault key a b c header payload signature first second third =
     passed _ _ (no_part_fault 1 a header first) ∙ passed _ _ (no_part_fault 2 b payload second) ∙ passed _ _ (no_part_fault 3 c signature third)
-    ∙ ap (λ (h : List ℕ). or_fault (header_fault h) (signature_fault key a b c)) (bytes_decoded a header first)
-    ∙ ap (λ (s : List ℕ). or_fault (header_fault header) (cond (bytes_eq s (hmac key (a ++ 46 ∷ b))) None (Some Signature))) (bytes_decoded c signature third)
+    ∙ ap (λ (h : List ℕ). or_else (header_fault h) (signature_fault key a b c)) (bytes_decoded a header first)
+    ∙ ap (λ (s : List ℕ). or_else (header_fault header) (cond (bytes_eq s (hmac key (a ++ 46 ∷ b))) None (Some Signature))) (bytes_decoded c signature third)
 
 pub bad_header : (key a b c header payload signature : List ℕ) (fault : JwsFault) → decoded a ≡ Some header → decoded b ≡ Some payload → decoded c ≡ Some signature
     → header_fault header ≡ Some fault → three_fault key a b c ≡ Some fault

@@ -7,6 +7,7 @@ use Rattle.serde_json.specs.Read.{read}
 use Rattle.serde_json.specs.Find.{get, as_str}
 use Rattle.base64.specs.Engines.{url_safe_no_pad}
 use Rattle.base64.specs.GeneralPurpose.{decoded_of}
+use Rattle.satp_base.specs.Faults.{or_else}
 use Rattle.satp_base.specs.Signatures.{hmac}
 use Rattle.satp_jws.specs.declared.fault.KeyFault.{KeyFault}
 use Rattle.satp_jws.specs.declared.fault.KeyFault.TheVariants.{Short, Long}
@@ -48,9 +49,9 @@ payload_of text = payload_in (parts_of text)
 
 -- ---- the header
 
--- the JSON value that a header is, where it is one
-unfoldable pub data_of : List ℕ → Option Data
-data_of header = if is_utf8 header then read header else None
+-- the value that the bytes are, where they are UTF-8
+unfoldable pub json_of : List ℕ → Option Data
+json_of header = if is_utf8 header then read header else None
 
 -- a member of a JSON object, where it has it
 abbrev pub algorithm_of : Data → Option (List ℕ)
@@ -68,13 +69,9 @@ data_fault None = Some Header
 data_fault (Some d) = algorithm_fault (algorithm_of d) (has_critical d)
 
 abbrev pub header_fault : List ℕ → Option JwsFault
-header_fault header = data_fault (data_of header)
+header_fault header = data_fault (json_of header)
 
 -- ---- the tests in their order
-
-abbrev pub or_fault : Option JwsFault → Option JwsFault → Option JwsFault
-or_fault None next = next
-or_fault (Some fault) next = Some fault
 
 abbrev pub part_fault : ℕ → List ℕ → Option JwsFault
 part_fault number part = if is_some (decoded part) then None else Some (NotBase64 number)
@@ -85,10 +82,10 @@ signature_fault key header payload signature = if bytes_eq (bytes_of signature) 
 
 unfoldable pub three_fault : List ℕ → List ℕ → List ℕ → List ℕ → Option JwsFault
 three_fault key header payload signature =
-    or_fault (part_fault 1 header)
-    (or_fault (part_fault 2 payload)
-    (or_fault (part_fault 3 signature)
-    (or_fault (header_fault (bytes_of header))
+    or_else (part_fault 1 header)
+    (or_else (part_fault 2 payload)
+    (or_else (part_fault 3 signature)
+    (or_else (header_fault (bytes_of header))
     (signature_fault key header payload signature))))
 
 abbrev pub parts_fault : List ℕ → List (List ℕ) → Option JwsFault

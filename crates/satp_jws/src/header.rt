@@ -1,6 +1,6 @@
 ghost use Rattle.std.specs.Prelude.{◌≡◌, ◌≢◌, None, Some, MatchResult, option_map};
 ghost use Rattle.serde_json.specs.View.{view};
-ghost use Rattle.satp_jws.specs.Faults.{algorithm_of, data_fault, data_of, has_critical, header_fault};
+ghost use Rattle.satp_jws.specs.Faults.{algorithm_of, data_fault, has_critical, header_fault, json_of};
 ghost use Rattle.satp_jws.specs.declared.fault.JwsFault.TheVariants.{Header, Memory};
 
 use crate::fault::JwsFault;
@@ -21,8 +21,8 @@ pub fn check_header(alloc: Global, header: &[u8]) -> Result<(), JwsFault>
 /// The JSON value that a header is.
 fn header_value(alloc: Global, header: &[u8]) -> Result<Value, JwsFault>
     ensures { MatchResult result
-        (λ value. data_of header.now ≡ Some (view value))
-        (λ fault. fault ≢ Memory → (fault ≡ Header) × (data_of header.now ≡ None)) }
+        (λ value. json_of header.now ≡ Some (view value))
+        (λ fault. fault ≢ Memory → (fault ≡ Header) × (json_of header.now ≡ None)) }
 {
     match Value::from_slice(alloc, header) {
         Ok(value) => Ok(value),

@@ -23,7 +23,7 @@ impl Model for Key {
 
     ghost view = { λ key. take key.count key.bytes };
 
-    ghost invariant = { λ key. key.count ≤ 64 };
+    ghost invariant = { λ key. (32 ≤ key.count) × (key.count ≤ 64) };
 }
 
 impl Key {

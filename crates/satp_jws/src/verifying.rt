@@ -91,7 +91,7 @@ fn part(alloc: Global, number: u8, symbols: &[u8]) -> Result<Text, JwsFault>
     }
 }
 
-/// Whether two lists of bytes are the same. It looks at all of them, so that where they differ shows in no time.
+/// Whether two lists of bytes are the same. It looks at all of them.
 fn is_same(bytes: &[u8], others: &[u8]) -> bool
     ensures { IsTrue result ↔ (bytes.now ≡ others.now) }
 {

@@ -1,27 +1,28 @@
--- A founding: the list that it appends, and what a stop leaves of it.
-use Rattle.std.proofs.Common.{◌≡◌, ◌≤◌, ◌<◌, ℕ, zero, suc, ◌+◌, ◌-◌, List, [], ◌∷◌, ◌++◌, length, take, Option, Some, None, option_map, refl, ap, subst, sym, ◌∙◌, ⊎_elim, arith, add-one, append_assoc}
-use Rattle.std.specs.Prelude.{slice_get}
-use Rattle.std.proofs.lemmas.Bool.{cases_lt}
-use Rattle.std.proofs.lemmas.List.{append-nil, take_all, take-append-le}
-use Rattle.std.proofs.Math.Seq.{take-append-add}
+-- A founding: the payloads that it appends.
+use Rattle.std.proofs.Common.{◌≡◌, ◌≤◌, ℕ, zero, suc, ◌+◌, List, [], ◌∷◌, ◌++◌, length, take, Option, Some, None, Ok, option_map, refl, ap, subst, sym, ◌∙◌, arith, add-one, length-append}
+use Rattle.std.specs.Prelude.{IfSome, map, slice_get}
+use Rattle.std.specs.List.{AllByRecursion, sum_by}
+use Rattle.std.proofs.lemmas.List.{append-nil, length-map}
+use Rattle.std.proofs.lemmas.List.Sums.{sum_by-take-le, sum_by_push}
+use Rattle.satp_base.specs.Acts.{founded}
+use Rattle.satp_base.specs.Calls.{Told}
+use Rattle.satp_base.specs.Format.{IsPayload}
 use Rattle.satp_base.specs.Founding.{Founding}
 use Rattle.satp_base.specs.Genesis.{IsGenesis, asset_pair, hold_triple}
+use Rattle.satp_base.specs.Money.{Book}
 use Rattle.satp_base.specs.declared.amount.Amount.{Amount}
-use Rattle.satp_base.specs.declared.area.Area.TheVariants.{Ledger}
-use Rattle.satp_base.specs.declared.area.Event.{Event}
-use Rattle.satp_base.specs.declared.area.Event.TheVariants.{Cut, Synced}
 use Rattle.satp_base.specs.declared.genesis.Asset.{Asset}
 use Rattle.satp_base.specs.declared.genesis.Hold.{Hold}
 use Rattle.satp_base.specs.declared.ledger.LedgerKind.{LedgerKind}
 use Rattle.satp_base.specs.declared.name.Name.{Name}
-use Rattle.satp_base.specs.Format.{Stands}
-use Rattle.satp_base.specs.Laws.{IsInAppend, RestsAt}
-use Rattle.satp_base.specs.Trail.{Trail, IsImage, extended}
-use Rattle.satp_base.proofs.Closing.{rest_stands}
-use Rattle.satp_journal.specs.Appending.{AtEach}
-use Rattle.satp_records.specs.Formats.{payload_of}
-use Rattle.satp_keeper.specs.Books.{asset_record, hold_record, ledger_payloads}
-use Rattle.satp_keeper.specs.Founding.{Grows, GrowsAnew, IsFront, asset_payloads, hold_payloads}
+use Rattle.satp_journal.specs.Appending.{AppendAnswers}
+use Rattle.satp_journal.specs.State.{Held}
+use Rattle.satp_records.specs.Formats.{IsFormed, payload_of}
+use Rattle.satp_records.specs.declared.stored.Stored.{Stored}
+use Rattle.satp_records.specs.declared.stored.Stored.TheVariants as stored
+use Rattle.satp_records.proofs.Payloads.{payloads_fit}
+use Rattle.satp_keeper.specs.Books.{Leaves, asset_record, hold_record, ledger_payloads, ledger_records}
+use Rattle.satp_keeper.specs.Founding.{asset_payloads, hold_payloads}
 use Rattle.satp_keeper.proofs.BookLemmas.{more_assets, more_holds}
 use Rattle.satp_keeper.proofs.Steps.{next_is}
 
@@ -59,62 +60,44 @@ hold_more kind assets holds i texts new o is there more = more ∙ ap (λ l. tex
     at None e = append-nil texts ∙ is ∙ ap (holds_at kind assets) (sym (none_next holds i e))
     at (Some h) e = ap (λ l. l ++ payload_of (hold_record h) ∷ []) is ∙ sym (more_holds kind assets (take i holds) h) ∙ ap (holds_at kind assets) (sym (next_is holds i h e))
 
-pub assets_done : (kind : LedgerKind) (g : Founding) (i : ℕ) (texts : List (List ℕ)) → IsGenesis g → 16 ≤ i → texts ≡ assets_at kind (take i g.assets) → texts ≡ holds_at kind g.assets (take 0 g.holds)
-assets_done kind g i texts valid all is = is ∙ ap (assets_at kind) (take_all i g.assets (omega (arith, valid.few_assets)))
+all_map : {X : Type 0} (f : X → Stored) → ((x : X) → IsFormed (f x)) → (xs : List X) (ys : List Stored) → AllByRecursion IsPayload (map payload_of ys) → AllByRecursion IsPayload (map payload_of (map f xs ++ ys))
+all_map f formed [] ys all = all
+all_map f formed (x ∷ xs) ys all = (payloads_fit (f x) (formed x), all_map f formed xs ys all)
 
-pub holds_done : (kind : LedgerKind) (g : Founding) (i : ℕ) (texts : List (List ℕ)) → IsGenesis g → 256 ≤ i → texts ≡ holds_at kind g.assets (take i g.holds) → texts ≡ ledger_payloads kind g []
-holds_done kind g i texts valid all is = is ∙ ap (holds_at kind g.assets) (take_all i g.holds (omega (arith, valid.few_holds)))
+pub all_fit : (kind : LedgerKind) (g : Founding) → AllByRecursion IsPayload (ledger_payloads kind g [])
+all_fit kind g = (payloads_fit (stored.Kind kind) tt, all_map asset_record (λ a. (a.cap.low, a.cap.high)) g.assets (map hold_record g.holds ++ []) (all_map hold_record (λ h. tt) g.holds [] tt))
 
--- ---- what a stop leaves
+pub few_payloads : (kind : LedgerKind) (g : Founding) → IsGenesis g → length (ledger_payloads kind g []) ≤ 1 + 16 + 256
+few_payloads kind g valid =
+    let whole = length-map (ledger_records kind g []) payload_of in
+    let parts = length-append (map asset_record g.assets) (map hold_record g.holds ++ []) in
+    let holds = length-append (map hold_record g.holds) [] in
+    omega (arith, whole, parts, holds, length-map g.assets asset_record, length-map g.holds hold_record, valid.few_assets, valid.few_holds)
 
-twice : (t : Trail) (xs ys : List Event) → extended t (xs ++ ys) ≡ extended (extended t xs) ys
-twice t xs ys = ap (λ l. let x : Trail = record t { events = l } in x) (sym (append_assoc t.events xs ys))
+pub fresh_leaves : (kind : LedgerKind) (genesis : Founding) (payloads texts : List (List ℕ)) (book : Book) (told : Option Told) → IsGenesis genesis → book ≡ founded genesis → IfSome told (λ t. payloads ≡ texts) → texts ≡ ledger_payloads kind genesis [] → IfSome told (λ t. Leaves kind payloads book)
+fresh_leaves kind genesis payloads texts book None valid is list whole = tt
+fresh_leaves kind genesis payloads texts book (Some t) valid is list whole = (genesis, [], record { valid = valid; runs = is; list = list ∙ whole })
 
-take_behind : (n : ℕ) (xs ys : List Event) → length xs < n → take n (xs ++ ys) ≡ xs ++ take (n - length xs) ys
-take_behind n xs ys lt = let whole : length xs + (n - length xs) ≡ n = omega (arith, lt) in ap (λ i. take i (xs ++ ys)) (sym whole) ∙ take-append-add xs ys (n - length xs)
+-- ---- one append of a founding
 
-pub grows_none : (whole payloads : List (List ℕ)) (t : Trail) → payloads ≡ [] → RestsAt t Ledger payloads → Grows whole t t
-grows_none whole payloads t none rests = (
-  [],
-  ap (λ l. let x : Trail = record t { events = l } in x) (sym (append-nil t.events)),
-  λ n image here. (0, subst (Stands image) none (rest_stands payloads image (rests image (subst (λ x. IsImage x Ledger image) (still n) here)))),
-)
-  where
-    still : (n : ℕ) → extended t (take n []) ≡ t
-    still zero = ap (λ l. let x : Trail = record t { events = l } in x) (append-nil t.events)
-    still (suc n) = ap (λ l. let x : Trail = record t { events = l } in x) (append-nil t.events)
+pub payload_at : (whole : List (List ℕ)) (i : ℕ) (q : List ℕ) → AllByRecursion IsPayload whole → slice_get whole i ≡ Some q → IsPayload q
+payload_at [] i q all e = absurd cc
+payload_at (p ∷ whole) zero q all e = subst IsPayload (let h = e in cc) all.0
+payload_at (p ∷ whole) (suc i) q all e = payload_at whole i q all.1 e
 
--- one append more
-pub grows_on : (whole payloads : List (List ℕ)) (i : ℕ) (q : List ℕ) (t u v : Trail) → payloads ≡ take i whole → slice_get whole i ≡ Some q → Grows whole t u → AtEach Ledger u v (λ events image. IsInAppend payloads q image) → Grows whole t v
-grows_on whole payloads i q t u v front next (xs, is, all) (ys, has, each) = (xs ++ ys, has ∙ ap (λ x. extended x ys) is ∙ sym (twice t xs ys), λ n image here. ⊎_elim (λ lt. later n image lt here) (λ le. sooner n image le here) (cases_lt (length xs) n))
-  where
-    longer : payloads ++ q ∷ [] ≡ take (i + 1) whole
-    longer = ap (λ l. l ++ q ∷ []) front ∙ sym (next_is whole i q next)
+pub list_none : (whole payloads : List (List ℕ)) (told : Option Told) → IfSome told (λ t. payloads ≡ []) → IfSome told (λ t. payloads ≡ take 0 whole)
+list_none whole payloads None is = tt
+list_none whole payloads (Some t) is = is
 
-    sooner : (n : ℕ) (image : List ℕ) → n ≤ length xs → IsImage (extended t (take n (xs ++ ys))) Ledger image → IsFront whole image
-    sooner n image le here = all n image (subst (λ l. IsImage (extended t l) Ledger image) (take-append-le n xs ys le) here)
+pub list_on : (whole : List (List ℕ)) (held new : Held) (q : List ℕ) (i : ℕ) (old mid : Option Told) → slice_get whole i ≡ Some q → IfSome old (λ t. held.payloads ≡ take i whole) → AppendAnswers q held new old mid (Ok tt) → IfSome mid (λ t. new.payloads ≡ take (i + 1) whole)
+list_on whole held new q i None mid next front is = subst (λ (o : Option Told). IfSome o (λ t. new.payloads ≡ take (i + 1) whole)) (sym is.2) tt
+list_on whole held new q i (Some t) mid next front is =
+    subst (λ (o : Option Told). IfSome o (λ t. new.payloads ≡ take (i + 1) whole)) (sym is.2) (ap (λ (h : Held). h.payloads) is.1 ∙ ap (λ l. l ++ q ∷ []) front ∙ sym (next_is whole i q next))
 
-    later : (n : ℕ) (image : List ℕ) → length xs < n → IsImage (extended t (take n (xs ++ ys))) Ledger image → IsFront whole image
-    later n image lt here =
-        let ys' = take (n - length xs) ys in
-        let at : IsImage (extended u ys') Ledger image = subst (λ x. IsImage x Ledger image) (ap (extended t) (take_behind n xs ys lt) ∙ twice t xs ys' ∙ ap (λ x. extended x ys') (sym is)) here in
-        ⊎_elim (λ s. (i, subst (Stands image) front s)) (λ s. (i + 1, subst (Stands image) longer s)) (each (n - length xs) image at).list
+-- ---- the room for what is still to be appended
 
--- a list that grows behind a cut
-pub anew_grows : (whole : List (List ℕ)) (t u v : Trail) → GrowsAnew [] t u → Grows whole u v → GrowsAnew whole t v
-anew_grows whole t u v (xs, is, all) (ys, has, each) = (xs ++ ys, has ∙ ap (λ x. extended x ys) is ∙ sym (twice t xs ys), λ n rest image shape here. ⊎_elim (λ lt. later n image lt here) (λ le. sooner n rest image le shape here) (cases_lt (length xs) n))
-  where
-    none_taken : (k : ℕ) → ◌≡◌ {A = List (List ℕ)} (take k []) []
-    none_taken zero = refl
-    none_taken (suc k) = refl
+pub taken_more : (whole : List (List ℕ)) (i : ℕ) (q : List ℕ) → slice_get whole i ≡ Some q → sum_by length (take (i + 1) whole) ≡ sum_by length (take i whole) + length q
+taken_more whole i q at = ap (sum_by length) (next_is whole i q at) ∙ sum_by_push length (take i whole) q
 
-    sooner : (n : ℕ) (rest : List Event) (image : List ℕ) → n ≤ length xs → take n (xs ++ ys) ≡ Cut Ledger 0 ∷ Synced Ledger ∷ rest → IsImage (extended t (take n (xs ++ ys))) Ledger image → IsFront whole image
-    sooner n rest image le shape here =
-        let front = take-append-le n xs ys le in
-        let r = all n rest image (sym front ∙ shape) (subst (λ l. IsImage (extended t l) Ledger image) front here) in
-        (0, subst (Stands image) (none_taken r.0) r.1)
-
-    later : (n : ℕ) (image : List ℕ) → length xs < n → IsImage (extended t (take n (xs ++ ys))) Ledger image → IsFront whole image
-    later n image lt here =
-        let ys' = take (n - length xs) ys in
-        each (n - length xs) image (subst (λ x. IsImage x Ledger image) (ap (extended t) (take_behind n xs ys lt) ∙ twice t xs ys' ∙ ap (λ x. extended x ys') (sym is)) here)
+pub room_left : (whole : List (List ℕ)) (i : ℕ) (q : List ℕ) (spare : ℕ) → slice_get whole i ≡ Some q → sum_by length whole ≤ sum_by length (take i whole) + spare → length q ≤ spare
+room_left whole i q spare at room = omega (arith, taken_more whole i q at, sum_by-take-le length whole (i + 1), room)

@@ -1,7 +1,7 @@
 -- A keeper behind an operation: what it keeps, and what it tells as a ledger.
 use Rattle.std.proofs.Common.{◌≡◌, ◌≢◌, ℕ, ◌↔◌, Bool, true, false, List, [], ◌∷◌, Option, Some, None, Result, Ok, Err, IsTrue, refl, ap, subst, sym, ◌∙◌, inl, inr}
 use Rattle.std.specs.Prelude.{IfSome, if◌then◌else◌}
-use Rattle.satp_base.specs.Acts.{ActsOn, Asks, MayAdd, MayAnswer, operation_events}
+use Rattle.satp_base.specs.Acts.{ActsOn, Asks, MayAdd, MayRefuse, operation_events}
 use Rattle.satp_base.specs.declared.area.Area.TheVariants.{Ledger}
 use Rattle.satp_base.specs.declared.area.Event.{Event}
 use Rattle.satp_base.specs.declared.area.Event.TheVariants.{Acted}
@@ -19,7 +19,7 @@ use Rattle.satp_base.specs.declared.session.SessionId.{SessionId}
 use Rattle.satp_base.specs.Calls.{Told}
 use Rattle.satp_base.specs.LedgerRule.{LedgerRule, RuleOn, operation}
 use Rattle.satp_base.specs.Money.{Book}
-use Rattle.satp_base.proofs.RuleLemmas.{rule-gives}
+use Rattle.satp_base.proofs.RuleLemmas.{order-may, rule-gives}
 use Rattle.satp_journal.specs.State.{Held}
 use Rattle.satp_records.specs.Formats.{payload_of}
 use Rattle.satp_records.specs.declared.stored.Stored.TheVariants as stored
@@ -168,12 +168,12 @@ module _ (op : LedgerOp) (session : SessionId) (terms : Terms) (b c : Book) (old
   tells_fault was now (Damaged at) w n is = absurd is
   tells_fault was now (Record at) w n is = absurd is
 
--- the answers of the rule are those that an operation may have
-pub may_answer : (b : Book) (entry : Entry) (op : LedgerOp) (session : SessionId) (terms : Terms) (answer : Answer) (new : Book) → RuleOn b entry op session terms answer new → MayAnswer op answer
-may_answer b entry op session terms Done new is = tt
-may_answer b entry Lock session terms (Taken shown) new is = tt
-may_answer b entry Lock session terms (NoFunds free) new is = tt
-may_answer b entry Mint session terms (Taken shown) new is = tt
-may_answer b entry Mint session terms UnknownAsset new is = tt
-may_answer b entry Mint session terms (Capped total) new is = tt
-may_answer b entry op session terms answer new is = absurd is
+  -- the faults of the keeper are those that an operation may have
+  pub fault_may : (fault : KeeperFault) → Answers (Err fault) → MayRefuse op (act_fault fault)
+  fault_may (OutOfOrder entry) is = order-may b op session entry is.1
+  fault_may Memory is = tt
+  fault_may Disk is = tt
+  fault_may Broken is = tt
+  fault_may Empty is = tt
+  fault_may (Damaged at) is = tt
+  fault_may (Record at) is = tt

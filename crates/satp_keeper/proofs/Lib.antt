@@ -7,4 +7,6 @@ pub mod Changes
 pub mod Storing
 pub mod Keeping
 pub mod FoundLemmas
+pub mod FoundCalls
 pub mod ClearLemmas
+pub mod Foundings

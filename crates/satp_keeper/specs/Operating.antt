@@ -54,9 +54,9 @@ wants_after count Memory = risen count 1
 wants_after count _ = count
 
 -- a count behind an answer
-abbrev pub counted : (ℕ → KeeperFault → ℕ) → ℕ → Result Answer KeeperFault → ℕ
-counted after count (Ok answer) = count
-counted after count (Err fault) = after count fault
+abbrev pub count_behind : (ℕ → KeeperFault → ℕ) → ℕ → Result Answer KeeperFault → ℕ
+count_behind after count (Ok answer) = count
+count_behind after count (Err fault) = after count fault
 
 -- what a ledger answers, and whether that changes an entry
 abbrev pub ApplyAnswers : LedgerOp → SessionId → Terms → Book → Book → Result (Answer × Bool) KeeperFault → Type 0

@@ -1,17 +1,17 @@
 //! A new ledger on a disk.
 
-ghost use Rattle.std.specs.Prelude.{◌≡◌, ◌≤◌, ◌⊎◌, ◌∷◌, ◌++◌, [], None, false, IfErr, IfOk, OnOk, IfSome, MatchResult, take};
-ghost use Rattle.std.specs.List.{AllByRecursion};
+ghost use Rattle.std.specs.Prelude.{◌≡◌, ◌≤◌, ◌+◌, ◌∷◌, ◌++◌, [], false, length, IfErr, IfOk, OnErr, OnOk, IfSome, MatchResult};
+ghost use Rattle.std.specs.List.{AllByRecursion, sum_by};
 ghost use Rattle.satp_base.specs.Acts.{founded};
 ghost use Rattle.satp_base.specs.Format.{IsPayload};
 ghost use Rattle.satp_base.specs.Genesis.{IsGenesis};
-ghost use Rattle.satp_base.specs.Streams.{Rose};
+ghost use Rattle.satp_base.specs.Streams.{HasCause, Rose};
 ghost use Rattle.satp_base.specs.declared.area.Area.TheVariants.{Ledger};
 ghost use Rattle.satp_journal.specs.Opening.{Rests};
 ghost use Rattle.satp_journal.specs.State.{Fits};
 ghost use Rattle.satp_records.specs.Formats.{IsFormed, payload_of};
 ghost use Rattle.satp_keeper.specs.Books.{Leaves, ledger_payloads};
-ghost use Rattle.satp_keeper.specs.Founding.{FoundStops, GrowStops, IsFoundFault, asset_payloads, hold_payloads};
+ghost use Rattle.satp_keeper.specs.Founding.{FailsWithin, Makes, UnfoundedBy, asset_payloads, clear_calls, found_calls, hold_payloads, stored_calls};
 
 use crate::fault::{KeeperFault, fault_of};
 use satp_base::{
@@ -86,12 +86,27 @@ fn first_payloads(alloc: Global, kind: LedgerKind, genesis: &Genesis) -> Result<
     Ok(texts)
 }
 
+/// How many bytes payloads have together.
+fn size_of(texts: &Texts) -> usize
+    requires few { length texts.now ≤ 1 + 16 + 256 }
+    requires payloads { AllByRecursion IsPayload texts.now }
+    ensures { result ≡ sum_by length texts.now }
+{
+    let mut size = 0;
+    for index in 0..texts.length() {
+        let Some(text) = texts.get(index) else {
+            unreachable!();
+        };
+        size += text.bytes().len();
+    }
+    size
+}
+
 /// Cuts the area to nothing, and opens the journal there.
 fn open_empty<D: Disk>(alloc: Global, disk: &mut D) -> Result<Journal, KeeperFault>
     ensures opened { IfOk result (λ journal. (journal.held.area ≡ Ledger) × (journal.held.broken ≡ false) × Fits journal.held (D.told disk.new) × Rests (D.told disk.new) journal.held × IfSome (D.told disk.new) (λ t. journal.held.payloads ≡ [])) }
-    ensures fault { IfErr result (IsFoundFault (D.told disk.old)) }
-    ensures stops { FoundStops [] (D.told disk.old) (D.told disk.new) }
-    ensures untold { D.told disk.old ≡ None → D.told disk.new ≡ None }
+    ensures answers { MatchResult result (λ journal. Makes clear_calls (D.told disk.old) (D.told disk.new)) (λ fault. UnfoundedBy [] (D.told disk.old) (D.told disk.new) fault) }
+    ensures ledger { D.book disk.new ≡ D.book disk.old }
     ensures later { D.faults disk.old ≤ D.faults disk.new }
     ensures cause { IfErr result (λ fault. fault ≡ KeeperFault.Disk → Rose (D.faults disk.old) (D.faults disk.new)) }
 {
@@ -105,24 +120,21 @@ fn open_empty<D: Disk>(alloc: Global, disk: &mut D) -> Result<Journal, KeeperFau
     }
 }
 
-/// Appends payloads to an empty journal, one after the other.
-fn append_all<D: Disk>(
-    disk: &mut D,
-    journal: &mut Journal,
-    texts: &Texts,
-) -> Result<(), KeeperFault>
+/// Appends payloads to an empty journal that has the room for them, one after the other.
+fn append_all<D: Disk>(disk: &mut D, journal: &mut Journal, texts: &Texts) -> Result<(), DiskFault>
     requires area { journal.old.held.area ≡ Ledger }
     requires whole { journal.old.held.broken ≡ false }
     requires fits { Fits journal.old.held (D.told disk.old) }
     requires rests { Rests (D.told disk.old) journal.old.held }
     requires empty { IfSome (D.told disk.old) (λ t. journal.old.held.payloads ≡ []) }
     requires payloads { AllByRecursion IsPayload texts.now }
+    requires records { length texts.now ≤ journal.old.spare_records }
+    requires bytes { sum_by length texts.now ≤ journal.old.spare_bytes }
     ensures appended { OnOk result ((journal.new.held.area ≡ Ledger) × (journal.new.held.broken ≡ false) × Fits journal.new.held (D.told disk.new) × Rests (D.told disk.new) journal.new.held × IfSome (D.told disk.new) (λ t. journal.new.held.payloads ≡ texts.now)) }
-    ensures fault { IfErr result (λ fault. (fault ≡ KeeperFault.Disk) ⊎ (fault ≡ KeeperFault.Memory)) }
-    ensures stops { GrowStops texts.now (D.told disk.old) (D.told disk.new) }
-    ensures untold { D.told disk.old ≡ None → D.told disk.new ≡ None }
-    ensures later { D.faults disk.old ≤ D.faults disk.new }
-    ensures cause { IfErr result (λ fault. fault ≡ KeeperFault.Disk → Rose (D.faults disk.old) (D.faults disk.new)) }
+    ensures ok { OnOk result (Makes (stored_calls texts.now) (D.told disk.old) (D.told disk.new)) }
+    ensures err { OnErr result (FailsWithin (stored_calls texts.now) (D.told disk.old) (D.told disk.new)) }
+    ensures ledger { D.book disk.new ≡ D.book disk.old }
+    ensures cause { HasCause (D.faults disk.old) (D.faults disk.new) result }
 {
     for index in 0..texts.length() {
         let Some(text) = texts.get(index) else {
@@ -130,13 +142,13 @@ fn append_all<D: Disk>(
         };
         match journal.append(disk, text.bytes()) {
             Ok(()) => {}
-            Err(fault) => return Err(fault_of(fault)),
+            Err(_) => return Err(DiskFault),
         }
     }
     Ok(())
 }
 
-/// Writes a new ledger. Memory for the ledger and its records is found before the first call on the disk.
+/// Writes a new ledger. Memory for the ledger and its payloads is found before the first call on the disk, and the journal's room for them before the first append.
 pub(crate) fn set_up<C: LedgerCore, D: Disk>(
     alloc: Global,
     disk: &mut D,
@@ -145,8 +157,8 @@ pub(crate) fn set_up<C: LedgerCore, D: Disk>(
 ) -> Result<(C, Journal), KeeperFault>
     ensures set { IfOk result (λ x. (C.book x.0 ≡ founded genesis.now) × (x.1.held.area ≡ Ledger) × (x.1.held.broken ≡ false) × Fits x.1.held (D.told disk.new) × Rests (D.told disk.new) x.1.held × IfSome (D.told disk.new) (λ t. x.1.held.payloads ≡ ledger_payloads kind genesis.now [])) }
     ensures leaves { IfOk result (λ x. IfSome (D.told disk.new) (λ t. Leaves kind x.1.held.payloads (C.book x.0))) }
-    ensures fault { IfErr result (IsFoundFault (D.told disk.old)) }
-    ensures stops { FoundStops (ledger_payloads kind genesis.now []) (D.told disk.old) (D.told disk.new) }
+    ensures answers { MatchResult result (λ x. Makes (found_calls (ledger_payloads kind genesis.now [])) (D.told disk.old) (D.told disk.new)) (λ fault. UnfoundedBy (ledger_payloads kind genesis.now []) (D.told disk.old) (D.told disk.new) fault) }
+    ensures ledger { D.book disk.new ≡ D.book disk.old }
     ensures later { D.faults disk.old ≤ D.faults disk.new }
     ensures cause { IfErr result (λ fault. fault ≡ KeeperFault.Disk → Rose (D.faults disk.old) (D.faults disk.new)) }
 {
@@ -158,12 +170,17 @@ pub(crate) fn set_up<C: LedgerCore, D: Disk>(
         Ok(texts) => texts,
         Err(Memory) => return Err(KeeperFault::Memory),
     };
+    let size = size_of(&texts);
     let mut journal = match open_empty(alloc, disk) {
         Ok(journal) => journal,
         Err(fault) => return Err(fault),
     };
+    match journal.reserve(texts.length(), size) {
+        Ok(()) => {}
+        Err(Memory) => return Err(KeeperFault::Memory),
+    }
     match append_all(disk, &mut journal, &texts) {
         Ok(()) => Ok((core, journal)),
-        Err(fault) => Err(fault),
+        Err(DiskFault) => Err(KeeperFault::Disk),
     }
 }

@@ -58,6 +58,7 @@ pub(crate) fn keep<C: LedgerCore, D: Disk>(
     ensures stops { AppendStops (payload_of (stored.Act op session terms.now)) journal.old.held (D.told disk.old) (D.told disk.new) }
     ensures rests { journal.new.held.broken ≡ false → RestsStill journal.old.held.area journal.old.held.payloads journal.new.held.payloads (D.told disk.old) (D.told disk.new) }
     ensures fits { journal.new.held.broken ≡ false → Fits journal.new.held (D.told disk.new) }
+    ensures ledger { D.book disk.new ≡ D.book disk.old }
     ensures later { D.faults disk.old ≤ D.faults disk.new }
     ensures cause { IfErr result (λ fault. fault ≡ KeeperFault.Disk → Rose (D.faults disk.old) (D.faults disk.new)) }
 {

@@ -8,9 +8,9 @@ ghost use Rattle.satp_journal.specs.State.{Fits};
 ghost use Rattle.satp_records.specs.Formats.{payload_of};
 ghost use Rattle.satp_records.specs.declared.stored.Stored.TheVariants as stored;
 ghost use Rattle.satp_keeper.specs.Books.{Leaves, ledger_payloads};
-ghost use Rattle.satp_keeper.specs.Founding.{FoundStops, IsFoundFault};
+ghost use Rattle.satp_keeper.specs.Founding.{FoundStops, Makes, UnfoundedBy, found_calls};
 ghost use Rattle.satp_keeper.specs.Opening.{UnopenedBy};
-ghost use Rattle.satp_keeper.specs.Operating.{KeepAnswers, act_fault, counted, faults_after, wants_after};
+ghost use Rattle.satp_keeper.specs.Operating.{KeepAnswers, act_fault, count_behind, faults_after, wants_after};
 
 use crate::fault::{KeeperFault, fault_of};
 use crate::founding::set_up;
@@ -58,6 +58,7 @@ fn open_ledger<C: LedgerCore, D: Disk>(
         (λ x. OpenAnswers Ledger (D.told disk.old) (D.told disk.new) (Ok x.1) × Leaves kind x.1.held.payloads (C.book x.0) × Rests (D.told disk.new) x.1.held × Fits x.1.held (D.told disk.new))
         (λ fault. UnopenedBy kind (D.told disk.old) (D.told disk.new) fault) }
     ensures stops { OpenStops Ledger (D.told disk.old) (D.told disk.new) }
+    ensures ledger { D.book disk.new ≡ D.book disk.old }
     ensures later { D.faults disk.old ≤ D.faults disk.new }
     ensures cause { IfErr result (λ fault. fault ≡ KeeperFault.Disk → Rose (D.faults disk.old) (D.faults disk.new)) }
 {
@@ -74,14 +75,21 @@ fn open_ledger<C: LedgerCore, D: Disk>(
 impl<C: LedgerCore, D: Disk> Kept<C, D> {
     /// Writes a new ledger into the area `Ledger` of a disk, over what stood there. The disk is handed back where that failed.
     ///
-    /// `Memory`, or `Disk`, which comes only where the disk's count of faults rose. `Damaged` comes exactly where the journal's opening behind the cut answers it, which a disk that tells never does.
+    /// The area is cut to nothing, an empty journal is opened there, and each payload of the new ledger is appended; no other call is made.
+    /// After a stop, or after `Disk`, the area has what stood there before or what a cut leaves of it, or it stands for a front of these payloads.
+    ///
+    /// `Disk` comes only where the disk's count of faults rose. `Memory` comes before the first call on the disk, or from the opening behind the cut, or for the journal's room
+    /// behind that: the area is then as it was, or without a record. `Damaged` comes only from that opening, and never over a disk that tells, whose area is empty behind the cut.
     pub fn found(alloc: Global, disk: D, genesis: &Genesis) -> Result<Kept<C, D>, Unopened<D>>
         ensures found { IfOk result (λ k. (C.book k.core ≡ founded genesis.now) × (k.broken ≡ false) × Rests (D.told k.disk) k.journal.held × IfSome (D.told k.disk) (λ t. k.journal.held.payloads ≡ ledger_payloads C.KIND genesis.now [])) }
         ensures leaves { IfOk result (λ k. IfSome (D.told k.disk) (λ t. Leaves C.KIND k.journal.held.payloads (C.book k.core))) }
-        ensures fault { IfErr result (λ u. IsFoundFault (D.told disk) u.fault) }
+        ensures answers { MatchResult result
+            (λ k. Makes (found_calls (ledger_payloads C.KIND genesis.now [])) (D.told disk) (D.told k.disk))
+            (λ u. UnfoundedBy (ledger_payloads C.KIND genesis.now []) (D.told disk) (D.told u.disk) u.fault) }
         ensures stops { MatchResult result
             (λ k. FoundStops (ledger_payloads C.KIND genesis.now []) (D.told disk) (D.told k.disk))
             (λ u. FoundStops (ledger_payloads C.KIND genesis.now []) (D.told disk) (D.told u.disk)) }
+        ensures ledger { MatchResult result (λ k. D.book k.disk ≡ D.book disk) (λ u. D.book u.disk ≡ D.book disk) }
         ensures counts { IfOk result (λ k. (k.tally.faults ≡ 0) × (k.tally.wants ≡ 0)) }
         ensures later { MatchResult result (λ k. D.faults disk ≤ D.faults k.disk) (λ u. D.faults disk ≤ D.faults u.disk) }
         ensures cause { IfErr result (λ u. u.fault ≡ KeeperFault.Disk → Rose (D.faults disk) (D.faults u.disk)) }
@@ -109,6 +117,7 @@ impl<C: LedgerCore, D: Disk> Kept<C, D> {
             (λ k. OpenAnswers Ledger (D.told disk) (D.told k.disk) (Ok k.journal) × Leaves C.KIND k.journal.held.payloads (C.book k.core) × Rests (D.told k.disk) k.journal.held × (k.broken ≡ false))
             (λ u. UnopenedBy C.KIND (D.told disk) (D.told u.disk) u.fault) }
         ensures stops { MatchResult result (λ k. OpenStops Ledger (D.told disk) (D.told k.disk)) (λ u. OpenStops Ledger (D.told disk) (D.told u.disk)) }
+        ensures ledger { MatchResult result (λ k. D.book k.disk ≡ D.book disk) (λ u. D.book u.disk ≡ D.book disk) }
         ensures counts { IfOk result (λ k. (k.tally.faults ≡ 0) × (k.tally.wants ≡ 0)) }
         ensures later { MatchResult result (λ k. D.faults disk ≤ D.faults k.disk) (λ u. D.faults disk ≤ D.faults u.disk) }
         ensures cause { IfErr result (λ u. u.fault ≡ KeeperFault.Disk → Rose (D.faults disk) (D.faults u.disk)) }
@@ -139,6 +148,7 @@ impl<C: LedgerCore, D: Disk> Kept<C, D> {
         ensures rests { self.new.broken ≡ false → RestsStill Ledger self.old.journal.held.payloads self.new.journal.held.payloads (D.told self.old.disk) (D.told self.new.disk) }
         ensures leaves { Leaves C.KIND self.old.journal.held.payloads (C.book self.old.core) → self.new.broken ≡ false → Leaves C.KIND self.new.journal.held.payloads (C.book self.new.core) }
         ensures tally { self.new.tally ≡ self.old.tally }
+        ensures ledger { D.book self.new.disk ≡ D.book self.old.disk }
         ensures later { D.faults self.old.disk ≤ D.faults self.new.disk }
         ensures disk { IfErr result (λ fault. fault ≡ KeeperFault.Disk → Rose (D.faults self.old.disk) (D.faults self.new.disk)) }
     {
@@ -175,8 +185,9 @@ impl<C: LedgerCore, D: Disk> Kept<C, D> {
         ensures stops { AppendStops (payload_of (stored.Act op session terms.now)) self.old.journal.held (D.told self.old.disk) (D.told self.new.disk) }
         ensures rests { self.new.broken ≡ false → RestsStill Ledger self.old.journal.held.payloads self.new.journal.held.payloads (D.told self.old.disk) (D.told self.new.disk) }
         ensures leaves { Leaves C.KIND self.old.journal.held.payloads (C.book self.old.core) → self.new.broken ≡ false → Leaves C.KIND self.new.journal.held.payloads (C.book self.new.core) }
-        ensures faults { self.new.tally.faults ≡ counted faults_after self.old.tally.faults result }
-        ensures wants { self.new.tally.wants ≡ counted wants_after self.old.tally.wants result }
+        ensures faults { self.new.tally.faults ≡ count_behind faults_after self.old.tally.faults result }
+        ensures wants { self.new.tally.wants ≡ count_behind wants_after self.old.tally.wants result }
+        ensures ledger { D.book self.new.disk ≡ D.book self.old.disk }
         ensures later { D.faults self.old.disk ≤ D.faults self.new.disk }
         ensures disk { IfErr result (λ fault. fault ≡ KeeperFault.Disk → Rose (D.faults self.old.disk) (D.faults self.new.disk)) }
         ensures cause { HasCause (D.faults self.old.disk + self.old.tally.faults) (D.faults self.new.disk + self.new.tally.faults) result }
@@ -244,25 +255,27 @@ impl<C: LedgerCore, D: Disk> Device for Kept<C, D> {
 impl<C: LedgerCore, D: Disk> Ledger for Kept<C, D> {
     ghost use Rattle.std.specs.Prelude.{◌≡◌, ◌+◌, List, [], None, Some, Result, IfOk, IfErr, IfSome, if◌then◌else◌};
     ghost use Rattle.satp_base.specs.Streams.{HasCause};
-    ghost use Rattle.satp_base.specs.Acts.{ActsOn, Asks, MayAdd, MayAnswer};
+    ghost use Rattle.satp_base.specs.Acts.{ActsOn, Asks, MayAdd, MayAnswer, MayRefuse};
     ghost use Rattle.satp_base.specs.LedgerRule.{entry_of};
     ghost use Rattle.satp_base.specs.declared.area.Event.{Event};
     ghost use Rattle.satp_base.specs.declared.area.Event.TheVariants.{Acted};
     ghost use Rattle.satp_base.specs.declared.ledger.Answer.{Answer};
     ghost use Rattle.satp_base.specs.declared.ledger.LedgerCall.TheVariants.{Act, Look};
-    ghost use Rattle.satp_keeper.specs.Operating.{KeepAnswers, act_answer, counted, faults_after, looked, shown, wants_after};
+    ghost use Rattle.satp_keeper.specs.Operating.{KeepAnswers, act_answer, count_behind, faults_after, looked, shown, wants_after};
     ghost use Rattle.satp_keeper.specs.declared.fault.KeeperFault.{KeeperFault};
 
     /// As [`Kept::act`]. Its `Disk`, `Broken` and `Memory` are answered as `Failed`.
     fn act(&mut self, op: LedgerOp, session: SessionId, terms: &Terms) -> Result<Answer, ActFault>
         ensures answer { IfOk result (MayAnswer op) }
+        ensures refused { IfErr result (MayRefuse op) }
         ensures told { (events : List Event) × MayAdd (Acted op session terms.now) result events
             × IfSome (if self.old.broken then None else Some (C.book self.old.core)) (λ b. ActsOn op session terms.now b result events (if self.new.broken then None else Some (C.book self.new.core)))
             × Asks (Act op session terms.now) events result None None }
         ensures cause { HasCause (D.faults self.old.disk + self.old.tally.faults) (D.faults self.new.disk + self.new.tally.faults) result }
         ensures kept { (inner : Result Answer KeeperFault) × (result ≡ act_answer inner)
             × KeepAnswers op session terms.now (C.book self.old.core) (C.book self.new.core) self.old.journal.held self.new.journal.held (D.told self.old.disk) (D.told self.new.disk) inner
-            × (self.new.tally.faults ≡ counted faults_after self.old.tally.faults inner) × (self.new.tally.wants ≡ counted wants_after self.old.tally.wants inner) }
+            × (self.new.tally.faults ≡ count_behind faults_after self.old.tally.faults inner) × (self.new.tally.wants ≡ count_behind wants_after self.old.tally.wants inner) }
+        ensures ledger { D.book self.new.disk ≡ D.book self.old.disk }
     {
         match Kept::act(self, op, session, terms) {
             Ok(answer) => Ok(answer),

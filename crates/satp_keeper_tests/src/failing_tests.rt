@@ -15,10 +15,14 @@ fn found_failing(alloc: Global, call: u64) -> Result<Option<KeeperFault>, Memory
 /// A founding makes 18 calls: the cut, the five of an opening that mends, and four for each of three records.
 #[test]
 fn each_call_of_a_founding_failing_is_answered(rt: HostRuntime) -> Result<(), Fail> {
-    for call in 1..19 {
-        assert_eq!(rt; found_failing(rt.alloc(), call)?, Some(KeeperFault::Disk));
+    for call in 1..20 {
+        let fault = if call < 19 {
+            Some(KeeperFault::Disk)
+        } else {
+            None
+        };
+        assert_eq!(rt; found_failing(rt.alloc(), call)?, fault, "at {call}");
     }
-    assert_eq!(rt; found_failing(rt.alloc(), 19)?, None);
     Ok(())
 }
 
@@ -36,36 +40,53 @@ fn lock(ledger: &mut KeptAccounts) -> Result<Answer, KeeperFault> {
     ask(ledger, LedgerOp::Lock, b"gold", 100)
 }
 
+/// A ledger whose operation failed at one of its four calls.
+fn broken(alloc: Global, call: u64) -> Result<KeptAccounts, Memory> {
+    let mut ledger = failing(alloc, call)?;
+    match lock(&mut ledger) {
+        Err(KeeperFault::Disk) => Ok(ledger),
+        _ => Err(Memory),
+    }
+}
+
+/// What a look and an operation by the trait answer.
+fn as_ledger(
+    ledger: &mut KeptAccounts,
+) -> Result<(Result<Entry, ActFault>, Result<Answer, ActFault>), Memory> {
+    let (one, terms) = (session()?, terms(b"gold", 100)?);
+    let looked = ledger.look(one);
+    Ok((looked, Ledger::act(ledger, LedgerOp::Lock, one, &terms)))
+}
+
 #[test]
 fn each_call_of_an_operation_failing_breaks_the_keeper(rt: HostRuntime) -> Result<(), Fail> {
+    let failed = (Err(ActFault::Failed), Err(ActFault::Failed));
     for call in 1..5 {
-        let mut ledger = failing(rt.alloc(), call)?;
-        assert_eq!(rt; lock(&mut ledger), Err(KeeperFault::Disk));
+        let mut ledger = broken(rt.alloc(), call)?;
         assert_eq!(rt; lock(&mut ledger), Err(KeeperFault::Broken));
-        assert_eq!(rt; ledger.look(session()?), Err(ActFault::Failed));
-        assert_eq!(rt;
-            Ledger::act(
-                &mut ledger,
-                LedgerOp::Lock,
-                session()?,
-                &terms(b"gold", 100)?
-            ),
-            Err(ActFault::Failed)
-        );
+        assert_eq!(rt; as_ledger(&mut ledger)?, failed);
     }
     Ok(())
 }
 
 /// Opens the ledger again after an operation failed at one of its four calls.
 fn opened_behind(alloc: Global, call: u64) -> Result<KeptAccounts, Memory> {
-    let mut ledger = failing(alloc, call)?;
-    if lock(&mut ledger) != Err(KeeperFault::Disk) {
-        return Err(Memory);
-    }
+    let ledger = broken(alloc, call)?;
     match open(alloc, ledger.into_disk()) {
         Ok(ledger) => Ok(ledger),
         Err(_) => Err(Memory),
     }
+}
+
+/// The entry that the opening finds, what the operation then answers, and what a look does.
+fn gone_on(
+    alloc: Global,
+    call: u64,
+) -> Result<(Entry, Result<Answer, KeeperFault>, Result<Entry, ActFault>), Memory> {
+    let mut ledger = opened_behind(alloc, call)?;
+    let (found, one) = (entry(&ledger)?, session()?);
+    let answer = lock(&mut ledger);
+    Ok((found, answer, ledger.look(one)))
 }
 
 /// A write that fails may have written: the gate is there behind the third call.
@@ -77,10 +98,8 @@ fn an_opening_behind_a_failed_operation_goes_on(rt: HostRuntime) -> Result<(), F
         (3, Entry::Locked),
         (4, Entry::Locked),
     ] {
-        let mut ledger = opened_behind(rt.alloc(), call)?;
-        assert_eq!(rt; entry(&ledger)?, found);
-        assert_eq!(rt; lock(&mut ledger), Ok(Answer::Done));
-        assert_eq!(rt; ledger.look(session()?), Ok(Entry::Locked));
+        let wanted = (found, Ok(Answer::Done), Ok(Entry::Locked));
+        assert_eq!(rt; gone_on(rt.alloc(), call)?, wanted, "at {call}");
     }
     Ok(())
 }

@@ -1,4 +1,6 @@
 //! What the tests begin with: a ledger on a disk, and operations of one session.
+//!
+//! The calls have no `ensures`: else the proofs of the tests carry all that a kept ledger promises.
 
 use satp_accounts::Accounts;
 use satp_base::{
@@ -69,17 +71,23 @@ pub fn ask(
     Kept::act(ledger, op, one, &terms)
 }
 
+pub fn entry(ledger: &KeptAccounts) -> Result<Entry, Memory> {
+    Ok(ledger.core().entry(session()?))
+}
+
 /// What ann is free to use of the gold.
 pub fn free(ledger: &KeptAccounts) -> Result<u64, Memory> {
     Ok(ledger.core().free(name(b"gold")?, name(b"ann")?))
-}
-
-pub fn entry(ledger: &KeptAccounts) -> Result<Entry, Memory> {
-    Ok(ledger.core().entry(session()?))
 }
 
 /// How many payloads the journal of the ledger has.
 pub fn count(alloc: Global, mut disk: MemDisk) -> Option<usize> {
     let journal = Journal::open(alloc, &mut disk, Area::Ledger).ok()?;
     Some(journal.count())
+}
+
+/// The session's entry, what ann is free to use of the gold, and how many payloads the journal has.
+pub fn left(alloc: Global, ledger: KeptAccounts) -> Result<(Entry, u64, Option<usize>), Memory> {
+    let (entry, free) = (entry(&ledger)?, free(&ledger)?);
+    Ok((entry, free, count(alloc, ledger.into_disk())))
 }

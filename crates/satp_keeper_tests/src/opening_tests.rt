@@ -1,4 +1,4 @@
-use crate::fixture::{ask, count, entry, found, founded, open};
+use crate::fixture::{KeptAccounts, ask, found, founded, left, open};
 use satp_base::{Answer, Area, Disk, Entry, LedgerOp, Memory, Text};
 use satp_keeper::KeeperFault;
 use satp_memory::MemDisk;
@@ -58,48 +58,69 @@ const BURN: &[u8] =
 
 const RESCUE: &[u8] = b"\x06\x05alpha\x00\x00\x00\x01";
 
+/// The payloads of a journal, and the index of the one that is refused.
+type Case = (&'static [&'static [u8]], Option<usize>);
+
+const KINDS: [Case; 4] = [
+    (&[OUTPUTS], Some(0)),
+    (&[GOLD], Some(0)),
+    (&[b"\x07"], Some(0)),
+    (&[ACCOUNTS, ACCOUNTS], Some(1)),
+];
+
 #[test]
 fn the_first_record_names_the_kind(rt: HostRuntime) -> Result<(), Fail> {
-    assert_eq!(rt; refused(rt.alloc(), &[OUTPUTS])?, Some(0));
-    assert_eq!(rt; refused(rt.alloc(), &[GOLD])?, Some(0));
-    assert_eq!(rt; refused(rt.alloc(), &[b"\x07"])?, Some(0));
-    assert_eq!(rt; refused(rt.alloc(), &[ACCOUNTS, ACCOUNTS])?, Some(1));
+    for (payloads, index) in KINDS {
+        assert_eq!(rt; refused(rt.alloc(), payloads)?, index);
+    }
     Ok(())
 }
+
+const GENESES: [Case; 5] = [
+    (&[ACCOUNTS, ANN], Some(1)),
+    (&[ACCOUNTS, RESCUE], Some(1)),
+    (&[ACCOUNTS, GOLD, GOLD], Some(2)),
+    (&[ACCOUNTS, GOLD, RICH], Some(2)),
+    (&[ACCOUNTS, GOLD, ANN, IRON], Some(3)),
+];
 
 #[test]
 fn the_genesis_refuses_what_it_does_not_take(rt: HostRuntime) -> Result<(), Fail> {
-    assert_eq!(rt; refused(rt.alloc(), &[ACCOUNTS, ANN])?, Some(1));
-    assert_eq!(rt; refused(rt.alloc(), &[ACCOUNTS, RESCUE])?, Some(1));
-    assert_eq!(rt; refused(rt.alloc(), &[ACCOUNTS, GOLD, GOLD])?, Some(2));
-    assert_eq!(rt; refused(rt.alloc(), &[ACCOUNTS, GOLD, RICH])?, Some(2));
-    assert_eq!(rt; refused(rt.alloc(), &[ACCOUNTS, GOLD, ANN, IRON])?, Some(3));
+    for (payloads, index) in GENESES {
+        assert_eq!(rt; refused(rt.alloc(), payloads)?, index);
+    }
     Ok(())
 }
+
+const OPERATIONS: [Case; 4] = [
+    (&[ACCOUNTS, GOLD, LOCK], Some(2)),
+    (&[ACCOUNTS, GOLD, ANN, BURN], Some(3)),
+    (&[ACCOUNTS, GOLD, ANN, LOCK, ANN], Some(4)),
+    (
+        &[ACCOUNTS, GOLD, ANN, LOCK, LOCK, BURN, BURN, b"\x13"],
+        Some(7),
+    ),
+];
 
 #[test]
 fn an_operation_that_is_not_done_is_refused(rt: HostRuntime) -> Result<(), Fail> {
-    assert_eq!(rt; refused(rt.alloc(), &[ACCOUNTS, GOLD, LOCK])?, Some(2));
-    assert_eq!(rt; refused(rt.alloc(), &[ACCOUNTS, GOLD, ANN, BURN])?, Some(3));
-    assert_eq!(rt;
-        refused(rt.alloc(), &[ACCOUNTS, GOLD, ANN, LOCK, ANN])?,
-        Some(4)
-    );
-    assert_eq!(rt;
-        refused(
-            rt.alloc(),
-            &[ACCOUNTS, GOLD, ANN, LOCK, LOCK, BURN, BURN, b"\x13"]
-        )?,
-        Some(7)
-    );
+    for (payloads, index) in OPERATIONS {
+        assert_eq!(rt; refused(rt.alloc(), payloads)?, index);
+    }
     Ok(())
 }
 
+const FRONTS: [Case; 3] = [
+    (&[ACCOUNTS], None),
+    (&[ACCOUNTS, GOLD, IRON], None),
+    (&[ACCOUNTS, GOLD, ANN, LOCK], None),
+];
+
 #[test]
 fn a_front_of_the_records_is_a_ledger(rt: HostRuntime) -> Result<(), Fail> {
-    assert_eq!(rt; refused(rt.alloc(), &[ACCOUNTS])?, None);
-    assert_eq!(rt; refused(rt.alloc(), &[ACCOUNTS, GOLD, IRON])?, None);
-    assert_eq!(rt; refused(rt.alloc(), &[ACCOUNTS, GOLD, ANN, LOCK])?, None);
+    for (payloads, index) in FRONTS {
+        assert_eq!(rt; refused(rt.alloc(), payloads)?, index);
+    }
     Ok(())
 }
 
@@ -113,17 +134,21 @@ fn no_record_and_damage_are_told_apart(rt: HostRuntime) -> Result<(), Fail> {
     Ok(())
 }
 
+/// A ledger that was founded again behind a lock.
+fn founded_twice(alloc: Global) -> Result<KeptAccounts, Memory> {
+    let mut ledger = founded(alloc)?;
+    if ask(&mut ledger, LedgerOp::Lock, b"gold", 100) != Ok(Answer::Done) {
+        return Err(Memory);
+    }
+    match found(alloc, ledger.into_disk()) {
+        Ok(again) => Ok(again),
+        Err(_) => Err(Memory),
+    }
+}
+
 #[test]
 fn a_founding_drops_what_stood_there(rt: HostRuntime) -> Result<(), Fail> {
-    let mut ledger = founded(rt.alloc())?;
-    assert_eq!(rt;
-        ask(&mut ledger, LedgerOp::Lock, b"gold", 100),
-        Ok(Answer::Done)
-    );
-    let Ok(again) = found(rt.alloc(), ledger.into_disk()) else {
-        return Err(Memory.into());
-    };
-    assert_eq!(rt; entry(&again)?, Entry::Absent);
-    assert_eq!(rt; count(rt.alloc(), again.into_disk()), Some(3));
+    let again = founded_twice(rt.alloc())?;
+    assert_eq!(rt; left(rt.alloc(), again)?, (Entry::Absent, 100, Some(3)));
     Ok(())
 }

@@ -1,6 +1,5 @@
 -- Whether an operation changes an entry, by what was there and what was answered.
 use Rattle.std.proofs.Common.{◌≡◌, ℕ, ◌+◌, nat_le, Bool, true, false, cond, Option, Some, None, refl, sym, ap, ◌∙◌}
-use Rattle.satp_base.specs.Acts.{MayAnswer}
 use Rattle.satp_base.specs.LedgerRule.{LedgerRule, RuleOn, entry_of, mint_on, moved, moves, operation, operation_on, stays}
 use Rattle.satp_base.specs.Money.{Book, cap_of, free_of, total_of}
 use Rattle.satp_base.specs.declared.ledger.Answer.{Answer}
@@ -121,36 +120,6 @@ unfolding operation
 operation-changes b op s t = changes_on b op s t (entry_of b.entries s)
 
 -- ---- the rule
-
-rule-answers : (b : Book) (entry : Entry) (op : LedgerOp) (s : SessionId) (t : Terms) (a : Answer) (new : Book) → RuleOn b entry op s t a new → MayAnswer op a
-rule-answers b entry Lock s t Done new h = tt
-rule-answers b entry Lock s t (NoFunds n) new h = tt
-rule-answers b entry Lock s t UnknownAsset new h = h
-rule-answers b entry Lock s t (Capped n) new h = h
-rule-answers b entry Lock s t (Taken x) new h = tt
-rule-answers b entry Burn s t Done new h = tt
-rule-answers b entry Burn s t (NoFunds n) new h = h
-rule-answers b entry Burn s t UnknownAsset new h = h
-rule-answers b entry Burn s t (Capped n) new h = h
-rule-answers b entry Burn s t (Taken x) new h = h
-rule-answers b entry Mint s t Done new h = tt
-rule-answers b entry Mint s t (NoFunds n) new h = h
-rule-answers b entry Mint s t UnknownAsset new h = tt
-rule-answers b entry Mint s t (Capped n) new h = tt
-rule-answers b entry Mint s t (Taken x) new h = tt
-rule-answers b entry Assign s t Done new h = tt
-rule-answers b entry Assign s t (NoFunds n) new h = h
-rule-answers b entry Assign s t UnknownAsset new h = h
-rule-answers b entry Assign s t (Capped n) new h = h
-rule-answers b entry Assign s t (Taken x) new h = h
-rule-answers b entry Release s t Done new h = tt
-rule-answers b entry Release s t (NoFunds n) new h = h
-rule-answers b entry Release s t UnknownAsset new h = h
-rule-answers b entry Release s t (Capped n) new h = h
-rule-answers b entry Release s t (Taken x) new h = h
-
-pub rule-may : (b : Book) (op : LedgerOp) (s : SessionId) (t : Terms) (a : Answer) (new : Book) → LedgerRule b op s t a new → MayAnswer op a
-rule-may b op s t a new h = rule-answers b (entry_of b.entries s) op s t a new h
 
 pub rule-changes : (b : Book) (op : LedgerOp) (s : SessionId) (t : Terms) (a : Answer) (new : Book) → LedgerRule b op s t a new → is_change op (entry_of b.entries s) a ≡ (operation b op s t).changes
 rule-changes b op s t a new h = sym (operation-changes b op s t ∙ ap (answer_changes op (entry_of b.entries s)) (rule-gives b op s t a new h).0)

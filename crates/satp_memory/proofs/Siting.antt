@@ -9,7 +9,7 @@ use Rattle.satp_base.specs.Money.{Book}
 use Rattle.satp_base.specs.declared.area.Event.{Event}
 use Rattle.satp_base.specs.declared.area.Event.TheVariants.{Acted}
 use Rattle.satp_memory.specs.declared.disk.MemDisk.{MemDisk}
-use Rattle.satp_base.specs.Acts.{ActsOn, Applies, MayAdd}
+use Rattle.satp_base.specs.Acts.{ActsOn, Applies, MayAdd, MayRefuse}
 use Rattle.satp_base.specs.Calls.{Told, asked, made}
 use Rattle.satp_base.specs.LedgerRule.{IsOutOfOrder, moved_entries, operation}
 use Rattle.satp_base.specs.declared.ledger.ActFault.TheVariants as act
@@ -23,6 +23,7 @@ use Rattle.satp_base.specs.declared.ledger.LedgerCall.TheVariants.{Act}
 use Rattle.satp_base.specs.declared.ledger.LedgerOp.{LedgerOp}
 use Rattle.satp_base.specs.declared.message.Terms.{Terms}
 use Rattle.satp_base.specs.declared.session.SessionId.{SessionId}
+use Rattle.satp_base.proofs.RuleLemmas.{order-may}
 use Rattle.satp_memory.specs.declared.operate.Halt.{Halt}
 use Rattle.satp_memory.specs.declared.operate.Halt.TheVariants as halt
 use Rattle.satp_memory.specs.declared.operate.Operated.{Operated}
@@ -110,6 +111,11 @@ module _ (op : LedgerOp) (s : SessionId) (t : Terms) (t0 t2 : Told) where
   halted-act b0 b1 halt.Unfounded h told = failed-act b0 b1 (h.1 ∙ sym h.0) (inl told)
   halted-act b0 b1 (halt.OutOfOrder entry) (b, is, out, e) told = ([], refl, out-book b0 b1 entry b is out e, inl told)
   halted-act b0 b1 halt.Memory h told = failed-act b0 b1 h (inl told)
+
+  pub halted-may : (b0 b1 : Option Book) (h : Halt) → OperatesOn op s t b0 (Err h) b1 → MayRefuse op (fault_of h)
+  halted-may b0 b1 halt.Unfounded h = tt
+  halted-may b0 b1 (halt.OutOfOrder entry) (b, is, out, e) = order-may b op s entry out
+  halted-may b0 b1 halt.Memory h = tt
 
   may-add : (e : Event) (a : Answer) (changed : Bool) → (changed ≡ true → a ≡ Done) → MayAdd e (Ok a) (if changed then e ∷ [] else [])
   may-add e Done true f = inl refl

@@ -236,7 +236,7 @@ impl<C: LedgerCore> Disk for MemSite<C> {
 impl<C: LedgerCore> Ledger for MemSite<C> {
     ghost use Rattle.std.specs.Prelude.{◌≡◌, ◌⊎◌, List, [], Some, None, is_some, IfOk, IfErr, IfSome, OnErr};
     ghost use Rattle.satp_base.specs.Streams.{HasCause};
-    ghost use Rattle.satp_base.specs.Acts.{Asks, MayAnswer};
+    ghost use Rattle.satp_base.specs.Acts.{Asks, MayAnswer, MayRefuse};
     ghost use Rattle.satp_base.specs.LedgerRule.{entry_of};
     ghost use Rattle.satp_base.specs.declared.ledger.LedgerCall.TheVariants.{Act, Look};
     ghost use Rattle.satp_memory.specs.Calling.{is_refused};
@@ -246,6 +246,7 @@ impl<C: LedgerCore> Ledger for MemSite<C> {
     /// It takes no effect where it fails.
     fn act(&mut self, op: LedgerOp, session: SessionId, terms: &Terms) -> Result<Answer, ActFault>
         ensures answer { IfOk result (MayAnswer op) }
+        ensures refused { IfErr result (MayRefuse op) }
         ensures told { ActTells op session terms.now (option_map C.book self.old.core) result (option_map C.book self.new.core) (told_of self.old.disk) (told_of self.new.disk) }
         ensures noted { Notes (Act op session terms.now) self.old.disk self.new.disk result }
         ensures cause { HasCause self.old.disk.calls.faults self.new.disk.calls.faults result }

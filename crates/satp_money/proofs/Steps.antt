@@ -1,5 +1,5 @@
 -- What each line of the table does to the entries and to owners' amounts, however these are kept.
-use Rattle.std.proofs.Common.{◌≡◌, ◌≢◌, inl, inr, ℕ, ◌+◌, ◌≤◌, ◌&&◌, Bool, true, false, cond, List, [], ◌∷◌, Some, None, Result, Ok, Err, refl, ap, subst, sym, ◌∙◌, arith}
+use Rattle.std.proofs.Common.{◌≡◌, ◌≢◌, ℕ, ◌+◌, ◌≤◌, ◌&&◌, Bool, true, false, cond, List, [], ◌∷◌, Some, None, Result, Ok, Err, refl, ap, subst, sym, ◌∙◌, arith}
 use Rattle.std.specs.Prelude.{OnErr, OnOk, find, option_map, unwrap_or}
 use Rattle.std.specs.BTreeMap.{is_at}
 use Rattle.std.specs.Option.{option_map_or}
@@ -9,14 +9,9 @@ use Rattle.satp_base.specs.Keys.{session_cmp}
 use Rattle.satp_base.proofs.SessionLemmas.{get_session, one_session, value_at}
 use Rattle.satp_base.specs.Founding.{cap_among, counted, equal_names}
 use Rattle.satp_base.specs.Ledgers.{Entries}
-use Rattle.satp_base.specs.LedgerRule.{Allows, entry_of, is_always_answered, leads, moved, result_of, terms_of}
+use Rattle.satp_base.specs.LedgerRule.{entry_of, is_always_answered, leads, moved, result_of, terms_of}
 use Rattle.satp_base.specs.Money.{Book, cap_of, is_pledged, pledged, sum_entries}
-use Rattle.satp_base.specs.Acts.{Applies}
 use Rattle.satp_base.specs.Numbers.{greatest_amount}
-use Rattle.satp_base.specs.declared.ledger.Answer.{Answer}
-use Rattle.satp_base.specs.declared.ledger.Answer.TheVariants.{Done}
-use Rattle.satp_base.specs.declared.ledger.CoreFault.{CoreFault}
-use Rattle.satp_base.specs.declared.ledger.CoreFault.TheVariants as core
 use Rattle.satp_base.specs.declared.genesis.Asset.{Asset}
 use Rattle.satp_base.specs.declared.ledger.Entry.{Entry}
 use Rattle.satp_base.specs.declared.ledger.Entry.TheVariants.{Absent, Locked, Minted}
@@ -30,7 +25,7 @@ use Rattle.satp_base.proofs.GenesisLemmas.{names_refl}
 use Rattle.satp_money.specs.Amounts.{Agrees}
 use Rattle.satp_money.proofs.Counting.{standing_at, sum_moved, under}
 use Rattle.satp_money.proofs.Moves.{Changes, Fits, agrees_after, all_is, is_mint}
-use Rattle.satp_money.specs.Steps.{Ends, FitsCap, is_giving, is_still, receiver, with_result}
+use Rattle.satp_money.specs.Steps.{FitsCap, is_giving, is_still, receiver, with_result}
 use Rattle.satp_money.specs.declared.owned.Owned.{Owned}
 
 never : false ≡ true → ⊥
@@ -214,20 +209,3 @@ no_mint op a m = never m
 
 pub entry_found : (es : List (SessionId × LedgerEntry)) (s : SessionId) (k : LedgerEntry) → value_at es s ≡ Some k → k.entry ≡ entry_of (from_entries {R = session_cmp} es) s
 entry_found es s k e = ap (λ o. option_map_or (λ (x : LedgerEntry). x.entry) o Absent) (sym (get_session es s ∙ e))
-
--- ---- the rule
-
-allowed : (b : Book) (op : LedgerOp) (t : Terms) → is_always_answered op ≡ false → Allows b op t
-allowed b Lock t a = absurd (never (sym a))
-allowed b Mint t a = absurd (never (sym a))
-allowed b op t a = tt
-
--- an operation that ends so, under the terms that hold for the session, is answered by the rule
-pub ends_applies : (b : Book) (op : LedgerOp) (s : SessionId) (t kept : Terms) (e : Entry) (r : Result Answer CoreFault) (new : Book) → is_always_answered op ≡ false → e ≡ entry_of b.entries s → kept ≡ terms_of b.entries s t
-    → Ends b e op s kept r new → Applies op s t b r new
-ends_applies b op s t kept e (Ok Done) new a is holds (inl h) = inl (sym is ∙ h.0, h.1)
-ends_applies b op s t kept e (Ok Done) new a is holds (inr h) = inr (subst (λ x. leads op x ≡ true) is h.0, allowed b op t a, h.1 ∙ ap (λ (x : Terms). with_result b op s x) holds)
-ends_applies b op s t kept e (Ok _) new a is holds h = absurd h
-ends_applies b op s t kept e (Err (core.OutOfOrder shown)) new a is holds h =
-    (record { found = h.0 ∙ is; bound = a; other = λ x. h.1 (sym h.0 ∙ x); no_line = subst (λ x. leads op x ≡ false) (sym h.0) h.2 }, h.3)
-ends_applies b op s t kept e (Err core.Memory) new a is holds h = h

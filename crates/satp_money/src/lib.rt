@@ -9,4 +9,4 @@ mod table;
 pub use entries::{entry_in, pledged_in, standing_in};
 pub use laws::{law_finished, law_moves, law_rule, law_totals};
 pub use owned::Owned;
-pub use table::{are_equal, is_giving, is_pledged, is_still, pledged_part, receiver, result_of};
+pub use table::{are_equal, is_giving, is_still, pledged_part, receiver, result_of};

@@ -15,7 +15,7 @@ pub fn are_equal(a: Name, b: Name) -> bool
 }
 
 /// The amount of such an entry is there, and no owner is free to use it.
-pub fn is_pledged(entry: Entry) -> bool
+fn is_pledged(entry: Entry) -> bool
     ensures { result ≡ is_pledged entry }
 {
     matches!(entry, Entry::Locked | Entry::Minted)

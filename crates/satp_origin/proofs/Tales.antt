@@ -14,13 +14,12 @@ use Rattle.satp_base.specs.declared.record.Rec.TheVariants.{Began, Took, Made, D
 use Rattle.satp_base.specs.declared.record.Next.{Next}
 use Rattle.satp_base.specs.declared.record.Next.TheVariants.{Append, Act, Wait, Ended}
 use Rattle.satp_base.specs.declared.view.View.{View}
-use Rattle.satp_base.specs.Tales.{IsTale, has, kind_eq, is_kind, is_by, last_of, last_is, maker}
+use Rattle.satp_base.specs.Tales.{IsTale, comes_behind, has, kind_eq, is_kind, is_by, last_of, last_is, maker}
 use Rattle.satp_base.specs.Views.{KeepsTale, begin, push, view_from}
-use Rattle.satp_base.specs.Roles.{AreAllowed, RoleRule, both, either, negate, no_way, is_back, is_commit, first_line, line, next_of}
+use Rattle.satp_base.specs.Roles.{AreAllowed, LawTales, RoleRule, both, either, first_line, is_back, is_commit, line, negate, next_of, no_way}
 use Rattle.satp_base.proofs.Finite.{In, all_of, bind, implies, all_of-at, implies-use, In-bind}
 use Rattle.satp_base.proofs.Finite.In.{here, there}
-use Rattle.satp_base.proofs.TaleTable.{all_kinds, tales, comes_behind, in_all_kinds, tale-in, tale-is, extends-is}
-use Rattle.satp_origin.specs.Laws.{LawTales}
+use Rattle.satp_base.proofs.TaleTable.{all_kinds, tales, in_all_kinds, tale-in, tale-is, extends-is}
 use Rattle.satp_origin.proofs.Rule.{MayCome, may-come}
 
 -- ---- the table by what it looks at
@@ -221,7 +220,7 @@ keeps_from v (r ∷ rs) k h = keeps_from (push v r) rs (step v r k (may-come v r
 begins : (terms : Terms) → Keeps (begin Origin terms)
 begins terms = record { tale = tale-is (TransferProposal ∷ []) (there here); final = λ h. absurd (cc h); ready = λ h. absurd (cc h) }
 
-pub law_tales : LawTales
+pub law_tales : LawTales Origin
 law_tales terms rs h =
     let k = keeps_from (begin Origin terms) rs (begins terms) h in
     (k.tale, λ r q. (step (view_from (begin Origin terms) rs) r k (may-come _ r q)).0)

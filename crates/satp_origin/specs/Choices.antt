@@ -1,18 +1,12 @@
 -- What an origin that is asked to turn back answers.
 use Rattle.std.specs.Prelude.{Bool, true, false, Option, Some, None, Result, Ok, Err, if◌then◌else◌}
-use Rattle.satp_base.specs.declared.message.Kind.TheVariants.{Rollback}
 use Rattle.satp_base.specs.declared.record.Cause.TheVariants.{Aborted}
 use Rattle.satp_base.specs.declared.record.Way.TheVariants.{Back}
 use Rattle.satp_base.specs.declared.record.Rec.{Rec}
 use Rattle.satp_base.specs.declared.record.Rec.TheVariants.{Chose}
 use Rattle.satp_base.specs.declared.record.TooLate.{TooLate}
 use Rattle.satp_base.specs.declared.view.View.{View}
-use Rattle.satp_base.specs.Tales.{has}
-use Rattle.satp_base.specs.Roles.{either, is_back, is_commit}
-
--- the session is on its way back already
-abbrev pub is_turned : View → Bool
-is_turned v = either (is_back v.way) (has Rollback v.tale)
+use Rattle.satp_base.specs.Roles.{is_commit, is_turned}
 
 -- too late once the origin has committed; no record where the session is on its way back; else the decision
 abbrev pub abort_of : View → Result (Option Rec) TooLate

@@ -1,14 +1,15 @@
 ghost use Rattle.std.specs.Prelude.{◌≡◌, ◌↔◌, IsTrue, Some, None, Ok, Err};
-ghost use Rattle.satp_base.specs.Roles.{After, Gives, Other, RoleRule, next_of};
+ghost use Rattle.satp_base.specs.Acts.{MayAnswer};
+ghost use Rattle.satp_base.specs.Roles.{After, Other, RoleRule, next_of};
 ghost use Rattle.satp_origin.specs.Choices.{abort_of};
 
 use crate::table::{committed, next, turned_back};
 use satp_base::{Answer, Cause, Kind, LedgerOp, Next, Rec, Role, TooLate, View, Way};
 
 /// The record behind the ledger's answer to the operation that was due.
-pub fn after(_view: &View, op: LedgerOp, answer: &Answer) -> Rec
-    requires due { next_of Role.Origin _view.now ≡ Next.Act op }
-    requires given { Gives op answer.now }
+pub fn after(view: &View, op: LedgerOp, answer: &Answer) -> Rec
+    requires due { next_of Role.Origin view.now ≡ Next.Act op }
+    requires given { MayAnswer op answer.now }
     ensures { After op answer.now result }
 {
     match answer {

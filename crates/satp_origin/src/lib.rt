@@ -4,12 +4,11 @@
 //! decides: it commits and burns, or it turns back, releases and says so. It may turn back until it has committed.
 #![tactic(auto)]
 
-ghost use Rattle.satp_origin.specs.Laws.{LawTales};
+ghost use Rattle.satp_base.specs.Roles.{LawTales};
+ghost use Rattle.satp_base.specs.declared.message.Role.TheVariants.{Origin};
 
 mod choice;
 mod table;
-#[cfg(test)]
-mod tests;
 
 pub use choice::{abort, after, allows};
 pub use table::next;
@@ -17,5 +16,5 @@ pub use table::next;
 /// Behind any list of records that the rule allows the chain's kinds are a tale, and a further record that it allows
 /// keeps them one. The law makes no call.
 pub fn law_tales()
-    ensures { LawTales }
+    ensures { LawTales Origin }
 {}

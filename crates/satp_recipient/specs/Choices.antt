@@ -8,15 +8,11 @@ use Rattle.satp_base.specs.declared.record.Rec.TheVariants.{Chose}
 use Rattle.satp_base.specs.declared.record.TooLate.{TooLate}
 use Rattle.satp_base.specs.declared.view.View.{View}
 use Rattle.satp_base.specs.Tales.{has}
-use Rattle.satp_base.specs.Roles.{both, either, negate, is_back}
+use Rattle.satp_base.specs.Roles.{both, is_turned, negate}
 
 -- the recipient has said that it is ready, and the origin hasn't turned back
 abbrev pub is_late : View → Bool
 is_late v = both (has CommitReady v.tale) (negate (has Rollback v.tale))
-
--- the session is on its way back already
-abbrev pub is_turned : View → Bool
-is_turned v = either (is_back v.way) (has Rollback v.tale)
 
 -- too late; no record where the session is on its way back; else the decision
 abbrev pub abort_of : View → Result (Option Rec) TooLate

@@ -5,12 +5,11 @@
 //! reject; after that only the origin decides.
 #![tactic(auto)]
 
-ghost use Rattle.satp_recipient.specs.Laws.{LawTales};
+ghost use Rattle.satp_base.specs.Roles.{LawTales};
+ghost use Rattle.satp_base.specs.declared.message.Role.TheVariants.{Recipient};
 
 mod choice;
 mod table;
-#[cfg(test)]
-mod tests;
 
 pub use choice::{abort, after, allows};
 pub use table::next;
@@ -18,5 +17,5 @@ pub use table::next;
 /// Behind any list of records that the rule allows the chain's kinds are a tale, and a further record that it allows
 /// keeps them one. The law makes no call.
 pub fn law_tales()
-    ensures { LawTales }
+    ensures { LawTales Recipient }
 {}

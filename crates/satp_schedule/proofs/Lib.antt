@@ -2,3 +2,4 @@ mod FieldLemmas
 mod Picks
 mod RoundLemmas
 mod VerbLemmas
+mod OneSchedule

@@ -17,7 +17,7 @@ use Rattle.satp_schedule.proofs.FieldLemmas.{fields_of_line, joined}
 pub tail_same : {x y : List ℕ} {xs ys : List (List ℕ)} → x ∷ xs ≡ y ∷ ys → xs ≡ ys
 tail_same e = cc
 
-head_same : {x y : List ℕ} {xs ys : List (List ℕ)} → x ∷ xs ≡ y ∷ ys → x ≡ y
+pub head_same : {x y : List ℕ} {xs ys : List (List ℕ)} → x ∷ xs ≡ y ∷ ys → x ≡ y
 head_same e = cc
 
 -- ---- the verb that a word is
@@ -59,6 +59,10 @@ in_parts (line.Stop side event pick) = refl
 in_parts (line.Fail side call) = refl
 in_parts (line.Lose n) = refl
 in_parts (line.Twice n) = refl
+
+-- lines of the same fields are of one sort
+pub one_sort : (k l : Line) → fields_of k ≡ fields_of l → verb_of k ≡ verb_of l
+one_sort k l e = same_verb (verb_of k) (verb_of l) (head_same (sym (in_parts k) ∙ e ∙ in_parts l))
 
 abbrev how_many : Verb → ℕ
 how_many Start = 6

@@ -28,10 +28,11 @@ impl Model for Schedule {
 }
 
 impl Schedule {
-    ghost use Rattle.std.specs.Prelude.{◌≡◌, ◌∷◌, ◌++◌, [], true, length, slice_get, MatchResult, OnOk, OnErr};
+    ghost use Rattle.std.specs.Prelude.{◌≡◌, ◌∷◌, ◌++◌, [], true, List, length, slice_get, MatchResult, OnOk, OnErr};
     ghost use Rattle.std.specs.Option.{option_copied};
     ghost use Rattle.satp_base.specs.Lines.{Fails, IsLines};
     ghost use Rattle.satp_schedule.specs.Lines.{AddsLine, most_bytes};
+    ghost use Rattle.satp_schedule.specs.declared.line.Line.{Line};
 
     /// The most lines of a schedule.
     pub const LINES: usize = 4096;
@@ -68,9 +69,12 @@ impl Schedule {
     /// At most 4,096 lines and 262,144 bytes. The empty text is a schedule of no lines.
     /// `Long` comes for more bytes, `Line` for the first line that is refused, one past the most and an open last line too.
     pub fn read(alloc: Global, text: &[u8]) -> Result<Schedule, ScheduleFault>
-        ensures { MatchResult result
+        ensures read { MatchResult result
             (λ schedule. IsLines AddsLine most_bytes text.now [] schedule)
             (λ fault. Fails AddsLine most_bytes text.now [] fault) }
+        ensures complete { (schedule : List Line) → IsLines AddsLine most_bytes text.now [] schedule → MatchResult result
+            (λ found. found ≡ schedule)
+            (λ fault. fault ≡ LinesFault.Memory) }
     {
         let mut schedule = Schedule::new(alloc);
         read_lines(&mut schedule, text, Schedule::BYTES)?;

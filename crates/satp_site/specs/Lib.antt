@@ -1,1 +1,4 @@
 pub mod Untold
+pub mod Keeping
+pub mod Ledgers
+pub mod Sites

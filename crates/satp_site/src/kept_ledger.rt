@@ -1,6 +1,16 @@
+ghost use Rattle.std.specs.Prelude.{◌≡◌, ◌≤◌, ◌↔◌, [], None, IfErr, IfOk, IsTrue, MatchResult};
+ghost use Rattle.satp_base.specs.Streams.{Rose};
+ghost use Rattle.satp_keeper.specs.Books.{ledger_payloads};
+ghost use Rattle.satp_keeper.specs.Founding.{UnfoundedBy};
+ghost use Rattle.satp_site.specs.Keeping.{IsFounded, IsRaised, IsUnraised};
+
+use crate::directory::Directory;
 use satp_accounts::Accounts;
-use satp_base::{Disk, Genesis, LedgerKind, SiteFault};
-use satp_keeper::{KeeperFault, Kept};
+use satp_base::{
+    ActFault, Answer, Device, Disk, DiskFault, Entry, Genesis, Ledger, LedgerKind, LedgerOp,
+    SessionId, SiteFault, Terms,
+};
+use satp_keeper::{KeeperFault, Kept, Unopened};
 use satp_outputs::Outputs;
 use std::alloc::Global;
 
@@ -12,37 +22,181 @@ pub enum KeptLedger<D: Disk + Drop> {
 }
 
 impl<D: Disk + Drop> KeptLedger<D> {
+    ghost use Rattle.std.specs.Prelude.{option_map};
+    ghost use Rattle.satp_base.specs.Acts.{MayAnswer, MayRefuse};
+    ghost use Rattle.satp_site.specs.Ledgers.{state_of};
+    ghost use Rattle.satp_site.specs.Sites.{SiteActs, SiteLooks};
+
     /// A new ledger of a kind. What stood on the disk is dropped.
+    ///
+    /// It fails exactly where the keeper of that kind does, with its fault.
     pub fn found(
         alloc: Global,
         disk: D,
         kind: LedgerKind,
         genesis: &Genesis,
-    ) -> Result<KeptLedger<D>, SiteFault> {
+    ) -> Result<KeptLedger<D>, Unopened<D>>
+        ensures founded { IfOk result (λ l. IsFounded kind genesis.now (state_of l)) }
+        ensures fault { IfErr result (λ u. UnfoundedBy (ledger_payloads kind genesis.now []) (D.told disk) (D.told u.disk) u.fault) }
+        ensures later { MatchResult result (λ l. D.faults disk ≤ (state_of l).disk_faults) (λ u. D.faults disk ≤ D.faults u.disk) }
+        ensures cause { IfErr result (λ u. u.fault ≡ KeeperFault.Disk → Rose (D.faults disk) (D.faults u.disk)) }
+    {
         match kind {
             LedgerKind::Accounts => match Kept::found(alloc, disk, genesis) {
                 Ok(kept) => Ok(KeptLedger::Accounts(kept)),
-                Err(_) => Err(SiteFault),
+                Err(unopened) => Err(unopened),
             },
             LedgerKind::Outputs => match Kept::found(alloc, disk, genesis) {
                 Ok(kept) => Ok(KeptLedger::Outputs(kept)),
-                Err(_) => Err(SiteFault),
+                Err(unopened) => Err(unopened),
             },
         }
     }
 
     /// The ledger that stands on the disk. Its first record names its kind, and the keeper of the other kind refuses that record.
-    pub fn open(alloc: Global, disk: D) -> Result<KeptLedger<D>, SiteFault> {
+    ///
+    /// It fails exactly where the keeper of accounts gives up on anything else, and where it refuses that record and the keeper of outputs gives up.
+    pub fn open(alloc: Global, disk: D) -> Result<KeptLedger<D>, Unopened<D>>
+        ensures opened { MatchResult result (λ l. IsRaised (D.told disk) (state_of l)) (λ u. IsUnraised (D.told disk) (D.told u.disk) u.fault) }
+        ensures later { MatchResult result (λ l. D.faults disk ≤ (state_of l).disk_faults) (λ u. D.faults disk ≤ D.faults u.disk) }
+        ensures cause { IfErr result (λ u. u.fault ≡ KeeperFault.Disk → Rose (D.faults disk) (D.faults u.disk)) }
+    {
         let unopened = match Kept::open(alloc, disk) {
             Ok(kept) => return Ok(KeptLedger::Accounts(kept)),
             Err(unopened) => unopened,
         };
-        if unopened.fault != (KeeperFault::Record { index: 0 }) {
-            return Err(SiteFault);
+        if is_first_record(unopened.fault) {
+            return match Kept::open(alloc, unopened.disk) {
+                Ok(kept) => Ok(KeptLedger::Outputs(kept)),
+                Err(unopened) => Err(unopened),
+            };
         }
-        match Kept::open(alloc, unopened.disk) {
-            Ok(kept) => Ok(KeptLedger::Outputs(kept)),
-            Err(_) => Err(SiteFault),
+        Err(unopened)
+    }
+
+    /// An operation on the ledger that is held. Without one it fails.
+    pub fn act_on(
+        held: &mut Option<KeptLedger<D>>,
+        op: LedgerOp,
+        session: SessionId,
+        terms: &Terms,
+    ) -> Result<Answer, ActFault>
+        ensures answer { IfOk result (MayAnswer op) }
+        ensures refused { IfErr result (MayRefuse op) }
+        ensures acts { SiteActs op session terms.now (option_map state_of held.old) result (option_map state_of held.new) }
+    {
+        match held {
+            Some(ledger) => ledger.act(op, session, terms),
+            None => Err(ActFault::Failed),
+        }
+    }
+
+    /// The entry that the ledger shows which is held. Without one it fails.
+    pub fn look_at(held: &mut Option<KeptLedger<D>>, session: SessionId) -> Result<Entry, ActFault>
+        ensures fault { IfErr result (λ fault. fault ≡ ActFault.Failed) }
+        ensures looks { SiteLooks session (option_map state_of held.old) result (option_map state_of held.new) }
+    {
+        match held {
+            Some(ledger) => ledger.look(session),
+            None => Err(ActFault::Failed),
+        }
+    }
+}
+
+impl<D: Directory> KeptLedger<D> {
+    ghost use Rattle.satp_site.specs.Ledgers.{state_of};
+
+    /// A new ledger of a kind, on a second disk in the directory of this one.
+    ///
+    /// It fails only where there is no such disk, or where the keeper of that kind fails.
+    pub fn found_beside(
+        alloc: Global,
+        disk: &mut D,
+        kind: LedgerKind,
+        genesis: &Genesis,
+    ) -> Result<KeptLedger<D>, SiteFault>
+        ensures { IfOk result (λ l. IsFounded kind genesis.now (state_of l)) }
+    {
+        match disk.beside() {
+            Ok(beside) => match KeptLedger::found(alloc, beside, kind, genesis) {
+                Ok(ledger) => Ok(ledger),
+                Err(_) => Err(SiteFault),
+            },
+            Err(DiskFault) => Err(SiteFault),
+        }
+    }
+
+    /// The ledger that stands on a second disk in the directory of this one.
+    ///
+    /// It fails only where there is no such disk, or where the keepers fail.
+    pub fn open_beside(alloc: Global, disk: &mut D) -> Result<KeptLedger<D>, SiteFault>
+        ensures { IfOk result (λ l. IsRaised None (state_of l)) }
+    {
+        match disk.beside() {
+            Ok(beside) => match KeptLedger::open(alloc, beside) {
+                Ok(ledger) => Ok(ledger),
+                Err(_) => Err(SiteFault),
+            },
+            Err(DiskFault) => Err(SiteFault),
+        }
+    }
+}
+
+/// The first record was refused.
+fn is_first_record(fault: KeeperFault) -> bool
+    ensures { IsTrue result ↔ (fault ≡ KeeperFault.Record 0) }
+{
+    fault == KeeperFault::Record { index: 0 }
+}
+
+impl<D: Disk + Drop> Device for KeptLedger<D> {
+    ghost use Rattle.std.specs.Prelude.{◌+◌};
+    ghost use Rattle.satp_keeper.specs.Telling.{untold_keeps};
+    ghost use Rattle.satp_site.specs.Keeping.{told_book};
+    ghost use Rattle.satp_site.specs.Ledgers.{state_of};
+
+    ghost told = { λ l. None };
+
+    ghost book = { λ l. told_book (state_of l) };
+
+    ghost faults = { λ l. (state_of l).disk_faults + (state_of l).own_faults };
+
+    ghost keeps_model = { λ l t is. untold_keeps t is };
+}
+
+impl<D: Disk + Drop> Ledger for KeptLedger<D> {
+    ghost use Rattle.std.specs.Prelude.{◌≡◌, ◌+◌, List, [], None, IfOk, IfErr, IfSome};
+    ghost use Rattle.satp_base.specs.Streams.{HasCause};
+    ghost use Rattle.satp_base.specs.Acts.{ActsOn, Asks, MayAdd, MayAnswer, MayRefuse};
+    ghost use Rattle.satp_base.specs.declared.area.Event.{Event};
+    ghost use Rattle.satp_base.specs.declared.area.Event.TheVariants.{Acted};
+    ghost use Rattle.satp_base.specs.declared.ledger.LedgerCall.TheVariants.{Act};
+    ghost use Rattle.satp_site.specs.Keeping.{KeptActs, KeptLooks, told_book};
+    ghost use Rattle.satp_site.specs.Ledgers.{state_of};
+
+    /// As the keeper of its kind answers it.
+    fn act(&mut self, op: LedgerOp, session: SessionId, terms: &Terms) -> Result<Answer, ActFault>
+        ensures answer { IfOk result (MayAnswer op) }
+        ensures refused { IfErr result (MayRefuse op) }
+        ensures told { (events : List Event) × MayAdd (Acted op session terms.now) result events
+            × IfSome (told_book (state_of self.old)) (λ b. ActsOn op session terms.now b result events (told_book (state_of self.new)))
+            × Asks (Act op session terms.now) events result None None }
+        ensures kept { KeptActs op session terms.now (state_of self.old) result (state_of self.new) }
+        ensures cause { HasCause ((state_of self.old).disk_faults + (state_of self.old).own_faults) ((state_of self.new).disk_faults + (state_of self.new).own_faults) result }
+    {
+        match self {
+            KeptLedger::Accounts(kept) => Ledger::act(kept, op, session, terms),
+            KeptLedger::Outputs(kept) => Ledger::act(kept, op, session, terms),
+        }
+    }
+
+    /// It fails exactly where a call on the disk failed before.
+    fn look(&mut self, session: SessionId) -> Result<Entry, ActFault>
+        ensures shown { KeptLooks session (state_of self.old) result (state_of self.new) }
+    {
+        match self {
+            KeptLedger::Accounts(kept) => kept.look(session),
+            KeptLedger::Outputs(kept) => kept.look(session),
         }
     }
 }

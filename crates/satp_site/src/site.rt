@@ -1,5 +1,6 @@
-ghost use Rattle.std.specs.Prelude.{None};
+ghost use Rattle.std.specs.Prelude.{◌≡◌, None, option_map};
 ghost use Rattle.satp_devices.specs.Untold.{untold_keeps};
+ghost use Rattle.satp_site.specs.Sites.{count_after};
 ghost use Rattle.satp_site.specs.Untold.{untold_ledger};
 
 use crate::directory::Directory;
@@ -8,13 +9,12 @@ use satp_base::{
     ActFault, Answer, Area, Device, Disk, DiskFault, Entry, Genesis, Ledger, LedgerKind, LedgerOp,
     SessionId, Site, SiteFault, Terms,
 };
-use satp_devices::counted;
 use std::alloc::Global;
 
 /// A disk in a directory, and a ledger that is kept in the file `ledger` of the same directory.
 ///
 /// The ledger is there once [`Site::found`] or [`Site::raise`] has succeeded, of the kind that was founded; until then operations and looks fail.
-/// It tells nothing, and counts the calls that failed.
+/// It tells nothing, and counts the calls that failed, each once.
 #[derive(Drop)]
 pub struct RealSite<D: Directory> {
     alloc: Global,
@@ -25,7 +25,11 @@ pub struct RealSite<D: Directory> {
 
 impl<D: Directory> RealSite<D> {
     /// A site without a ledger, on a disk that is in no directory yet.
-    pub fn new(disk: D, alloc: Global) -> RealSite<D> {
+    pub fn new(disk: D, alloc: Global) -> RealSite<D>
+        ensures disk { result.disk ≡ disk }
+        ensures ledger { result.ledger ≡ None }
+        ensures faults { result.faults ≡ 0 }
+    {
         RealSite {
             alloc,
             disk,
@@ -33,6 +37,17 @@ impl<D: Directory> RealSite<D> {
             faults: 0,
         }
     }
+}
+
+/// Hands an answer on, and counts it where it is a fault. The count stands still at its last number.
+fn counted<T, E>(faults: &mut u64, answer: Result<T, E>) -> Result<T, E>
+    ensures same { result ≡ answer }
+    ensures count { faults.new ≡ count_after faults.old answer }
+{
+    if answer.is_err() {
+        *faults = faults.saturating_add(1);
+    }
+    answer
 }
 
 impl<D: Directory> Device for RealSite<D> {
@@ -45,14 +60,18 @@ impl<D: Directory> Device for RealSite<D> {
     ghost keeps_model = { λ s t is. untold_keeps t is };
 }
 
-/// A call on the disk fails only where the disk itself fails.
+/// A call on the disk makes one call on the disk of the directory, fails only where that fails, and leaves the ledger alone; entering a directory drops it.
+///
+/// What every call of a disk leaves of it (`beside`) neither no call nor two calls have to leave.
 impl<D: Directory> Disk for RealSite<D> {
     ghost use Rattle.std.specs.Prelude.{◌≤◌, ◌+◌, ◌-◌, ◌^◌, length, IfOk, OnOk};
     ghost use Rattle.satp_base.specs.Streams.{HasCause};
 
     fn enter(&mut self, dir: &[u8]) -> Result<(), DiskFault>
-        ensures cause { HasCause self.old.faults self.new.faults result }
+        ensures count { self.new.faults ≡ count_after self.old.faults result }
         ensures disk { HasCause (D.faults self.old.disk) (D.faults self.new.disk) result }
+        ensures call { D.beside self.old.disk self.new.disk }
+        ensures ledger { self.new.ledger ≡ None }
     {
         // The ledger's disk stands under the lock that is given back here.
         self.ledger = None;
@@ -60,83 +79,129 @@ impl<D: Directory> Disk for RealSite<D> {
     }
 
     fn length(&mut self, area: Area) -> Result<u64, DiskFault>
-        ensures cause { HasCause self.old.faults self.new.faults result }
+        ensures count { self.new.faults ≡ count_after self.old.faults result }
         ensures disk { HasCause (D.faults self.old.disk) (D.faults self.new.disk) result }
+        ensures call { D.beside self.old.disk self.new.disk }
+        ensures ledger { self.new.ledger ≡ self.old.ledger }
     {
         counted(&mut self.faults, self.disk.length(area))
     }
 
     fn read(&mut self, area: Area, at: u64, into: &mut [u8]) -> Result<usize, DiskFault>
         ensures bound { IfOk result (λ n. n ≤ length into.new) }
-        ensures cause { HasCause self.old.faults self.new.faults result }
+        ensures count { self.new.faults ≡ count_after self.old.faults result }
         ensures disk { HasCause (D.faults self.old.disk) (D.faults self.new.disk) result }
+        ensures call { D.beside self.old.disk self.new.disk }
+        ensures ledger { self.new.ledger ≡ self.old.ledger }
     {
         counted(&mut self.faults, self.disk.read(area, at, into))
     }
 
     fn write(&mut self, area: Area, at: u64, bytes: &[u8]) -> Result<(), DiskFault>
         ensures fits { OnOk result (at + length bytes.now ≤ 2 ^ 64 - 1) }
-        ensures cause { HasCause self.old.faults self.new.faults result }
+        ensures count { self.new.faults ≡ count_after self.old.faults result }
         ensures disk { HasCause (D.faults self.old.disk) (D.faults self.new.disk) result }
+        ensures call { D.beside self.old.disk self.new.disk }
+        ensures ledger { self.new.ledger ≡ self.old.ledger }
     {
         counted(&mut self.faults, self.disk.write(area, at, bytes))
     }
 
     fn cut(&mut self, area: Area, size: u64) -> Result<(), DiskFault>
-        ensures cause { HasCause self.old.faults self.new.faults result }
+        ensures count { self.new.faults ≡ count_after self.old.faults result }
         ensures disk { HasCause (D.faults self.old.disk) (D.faults self.new.disk) result }
+        ensures call { D.beside self.old.disk self.new.disk }
+        ensures ledger { self.new.ledger ≡ self.old.ledger }
     {
         counted(&mut self.faults, self.disk.cut(area, size))
     }
 
     fn sync(&mut self, area: Area) -> Result<(), DiskFault>
-        ensures cause { HasCause self.old.faults self.new.faults result }
+        ensures count { self.new.faults ≡ count_after self.old.faults result }
         ensures disk { HasCause (D.faults self.old.disk) (D.faults self.new.disk) result }
+        ensures call { D.beside self.old.disk self.new.disk }
+        ensures ledger { self.new.ledger ≡ self.old.ledger }
     {
         counted(&mut self.faults, self.disk.sync(area))
     }
 }
 
 impl<D: Directory> Ledger for RealSite<D> {
-    fn act(&mut self, op: LedgerOp, session: SessionId, terms: &Terms) -> Result<Answer, ActFault> {
-        let answer = match &mut self.ledger {
-            Some(KeptLedger::Accounts(kept)) => Ledger::act(kept, op, session, terms),
-            Some(KeptLedger::Outputs(kept)) => Ledger::act(kept, op, session, terms),
-            None => Err(ActFault::Failed),
-        };
+    ghost use Rattle.std.specs.Prelude.{List, [], Result, Err, IfOk, IfErr, IfSome};
+    ghost use Rattle.satp_base.specs.Acts.{ActsOn, Asks, MayAdd, MayAnswer, MayRefuse};
+    ghost use Rattle.satp_base.specs.declared.area.Event.{Event};
+    ghost use Rattle.satp_base.specs.declared.area.Event.TheVariants.{Acted};
+    ghost use Rattle.satp_base.specs.declared.ledger.LedgerCall.TheVariants.{Act};
+    ghost use Rattle.satp_site.specs.Ledgers.{state_of};
+    ghost use Rattle.satp_site.specs.Sites.{SiteActs, SiteLooks};
+
+    /// As the ledger that it holds; without one it fails.
+    fn act(&mut self, op: LedgerOp, session: SessionId, terms: &Terms) -> Result<Answer, ActFault>
+        ensures answer { IfOk result (MayAnswer op) }
+        ensures refused { IfErr result (MayRefuse op) }
+        ensures told { (events : List Event) × MayAdd (Acted op session terms.now) result events
+            × IfSome None (λ b. ActsOn op session terms.now b result events None)
+            × Asks (Act op session terms.now) events result None None }
+        ensures acts { SiteActs op session terms.now (option_map state_of self.old.ledger) result (option_map state_of self.new.ledger) }
+        ensures count { self.new.faults ≡ count_after self.old.faults result }
+        ensures disk { self.new.disk ≡ self.old.disk }
+    {
+        let answer = KeptLedger::act_on(&mut self.ledger, op, session, terms);
         counted(&mut self.faults, answer)
     }
 
-    fn look(&mut self, session: SessionId) -> Result<Entry, ActFault> {
-        let answer = match &mut self.ledger {
-            Some(KeptLedger::Accounts(kept)) => kept.look(session),
-            Some(KeptLedger::Outputs(kept)) => kept.look(session),
-            None => Err(ActFault::Failed),
-        };
+    /// As the ledger that it holds; without one it fails.
+    fn look(&mut self, session: SessionId) -> Result<Entry, ActFault>
+        ensures fault { IfErr result (λ fault. fault ≡ ActFault.Failed) }
+        ensures looks { SiteLooks session (option_map state_of self.old.ledger) result (option_map state_of self.new.ledger) }
+        ensures count { self.new.faults ≡ count_after self.old.faults result }
+        ensures disk { self.new.disk ≡ self.old.disk }
+    {
+        let answer = KeptLedger::look_at(&mut self.ledger, session);
         counted(&mut self.faults, answer)
     }
 }
 
 impl<D: Directory> Site for RealSite<D> {
+    ghost use Rattle.std.specs.Prelude.{List, []};
+    ghost use Rattle.satp_base.specs.Acts.{Asks, FoundEvents, FoundsBook};
+    ghost use Rattle.satp_base.specs.declared.area.Event.{Event};
+    ghost use Rattle.satp_base.specs.declared.ledger.LedgerCall.TheVariants.{Found, Raise};
+    ghost use Rattle.satp_site.specs.Ledgers.{state_of};
+    ghost use Rattle.satp_site.specs.Sites.{SiteFounds, SiteRaises};
+
     ghost one_ledger = { λ s t b told book. untold_ledger t b told };
 
-    fn found(&mut self, kind: LedgerKind, genesis: &Genesis) -> Result<(), SiteFault> {
+    /// It fails only where no disk was had beside its own, or where the keeper of that kind fails.
+    fn found(&mut self, kind: LedgerKind, genesis: &Genesis) -> Result<(), SiteFault>
+        ensures told { (events : List Event) × FoundEvents result events × Asks (Found kind genesis.now) events result None None }
+        ensures book { FoundsBook genesis.now result None None }
+        ensures founds { SiteFounds kind genesis.now result (option_map state_of self.new.ledger) }
+        ensures count { self.new.faults ≡ count_after self.old.faults result }
+    {
         self.ledger = None;
-        let answer = match self.disk.beside() {
-            Ok(disk) => KeptLedger::found(self.alloc, disk, kind, genesis),
-            Err(DiskFault) => Err(SiteFault),
-        };
-        self.ledger = Some(counted(&mut self.faults, answer)?);
-        Ok(())
+        match KeptLedger::found_beside(self.alloc, &mut self.disk, kind, genesis) {
+            Ok(ledger) => {
+                self.ledger = Some(ledger);
+                Ok(())
+            }
+            Err(fault) => counted(&mut self.faults, Err(fault)),
+        }
     }
 
-    fn raise(&mut self) -> Result<(), SiteFault> {
+    /// It fails only where no disk was had beside its own, or where the keepers fail.
+    fn raise(&mut self) -> Result<(), SiteFault>
+        ensures told { Asks Raise [] result None None }
+        ensures raises { SiteRaises result (option_map state_of self.new.ledger) }
+        ensures count { self.new.faults ≡ count_after self.old.faults result }
+    {
         self.ledger = None;
-        let answer = match self.disk.beside() {
-            Ok(disk) => KeptLedger::open(self.alloc, disk),
-            Err(DiskFault) => Err(SiteFault),
-        };
-        self.ledger = Some(counted(&mut self.faults, answer)?);
-        Ok(())
+        match KeptLedger::open_beside(self.alloc, &mut self.disk) {
+            Ok(ledger) => {
+                self.ledger = Some(ledger);
+                Ok(())
+            }
+            Err(fault) => counted(&mut self.faults, Err(fault)),
+        }
     }
 }

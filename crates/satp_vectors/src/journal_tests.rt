@@ -2,26 +2,17 @@ use satp_base::Area;
 use satp_journal::{Journal, JournalFault};
 use satp_memory::MemDisk;
 use std::alloc::Global;
+use std::test::Fail;
 
 #[test]
-fn a_journal_is_opened_appended_to_and_opened_again(rt: HostRuntime) {
-    let Ok(mut disk) = MemDisk::new(rt.alloc()) else {
-        return;
-    };
-    let opened = Journal::open(rt.alloc(), &mut disk, Area::JournalA);
-    assert!(rt; opened.is_ok());
-    let Ok(mut journal) = opened else {
-        return;
-    };
+fn a_journal_is_opened_appended_to_and_opened_again(rt: HostRuntime) -> Result<(), Fail> {
+    let mut disk = MemDisk::new(rt.alloc())?;
+    let mut journal = Journal::open(rt.alloc(), &mut disk, Area::JournalA)?;
     assert_eq!(rt; journal.reserve(2, 4), Ok(()));
     assert_eq!(rt; journal.append(&mut disk, b"abc"), Ok(()));
     assert_eq!(rt; journal.append(&mut disk, b"d"), Ok(()));
     assert_eq!(rt; journal.count(), 2);
-    let again = Journal::open(rt.alloc(), &mut disk, Area::JournalA);
-    assert!(rt; again.is_ok());
-    let Ok(again) = again else {
-        return;
-    };
+    let again = Journal::open(rt.alloc(), &mut disk, Area::JournalA)?;
     assert_eq!(rt; again.count(), 2);
     assert!(rt;
         again
@@ -34,6 +25,7 @@ fn a_journal_is_opened_appended_to_and_opened_again(rt: HostRuntime) {
             .is_some_and(|payload| payload == b"d".as_slice())
     );
     assert!(rt; again.payload(2).is_none());
+    Ok(())
 }
 
 /// The calls of an opening of an empty area are 1 to 5, and those of the first append 6 to 9.

@@ -9,3 +9,9 @@ mod hash_tests;
 mod journal_tests;
 #[cfg(test)]
 mod jws_tests;
+#[cfg(test)]
+mod longest_tests;
+#[cfg(test)]
+mod tale_tests;
+#[cfg(test)]
+mod value_tests;

@@ -7,7 +7,6 @@ use Rattle.clap.specs.Words.{App, Text, first_of, first_value, found_of}
 use Rattle.clap.specs.declared.parser.matches.ArgMatches.{ArgMatches}
 use Rattle.clap.proofs.WalkLemmas.{first_value-rows}
 use Rattle.satp_base.specs.Values.{name_text}
-use Rattle.satp_base.specs.Signatures.{encoded}
 use Rattle.satp_base.proofs.Exact.{same_address_text, same_text}
 use Rattle.satp_base.proofs.Equalities.{equal_names, name_test}
 use Rattle.satp_base.proofs.SignatureLemmas.{same_bytes}
@@ -94,13 +93,6 @@ no_verb words w got not_answer not_check not_init = unknown words λ v b. other 
     other to_answer = not_answer
     other to_check = not_check
     other to_init = not_init
-
-pub no_words : (words : List Text) → slice_get words 0 ≡ None → NotListed words
-no_words [] e = unknown [] (λ v b. nothing v b.0 b.1)
-  where
-    nothing : (v : Verb) (rest : List Text) → [] ≡ verb_text v ∷ rest → ⊥
-    nothing v rest f = cc
-no_words (w ∷ ws) e = absurd cc
 
 -- the first word
 pub begins : (words : List Text) (w name : Text) → Some w ≡ slice_get words 0 → w ≡ name → Begins words name
@@ -195,13 +187,12 @@ one_name v w a b x y va wb vx wy e = sym (same_text a x (same_some _ _ (sym va �
 -- ---- words list one command at most
 
 same_key : (value key other : Option Text) → MayBe IsKey value key → MayBe IsKey value other → key ≡ other
-unfolding encoded
 same_key None None None a b = refl
 same_key None None (Some l) a b = absurd b
 same_key None (Some k) l a b = absurd a
 same_key (Some t) None l a b = absurd a
 same_key (Some t) (Some k) None a b = absurd b
-same_key (Some t) (Some k) (Some l) a b = ap Some (same_bytes k l a.bytes b.bytes (sym a.encoded ∙ b.encoded))
+same_key (Some t) (Some k) (Some l) a b = ap Some (same_bytes k l a.bytes b.bytes (sym a.is_text ∙ b.is_text))
 
 abbrev ledger_at : Text → LedgerKind
 ledger_at w = if bytes_eq w (codes "accounts") then Accounts else Outputs
@@ -214,14 +205,13 @@ same_ledger : (g h : LedgerKind) → ledger_text g ≡ ledger_text h → g ≡ h
 same_ledger g h e = sym (at_ledger g) ∙ ap ledger_at e ∙ at_ledger h
 
 one_init : (v : Text → Option Text) (d d' : Text) (n n' p p' : Name) (a a' : Address) (k k' : Text) (g g' : LedgerKind) → InitValues v d n p a k g → InitValues v d' n' p' a' k' g' → Init d n p a k g ≡ Init d' n' p' a' k' g'
-unfolding encoded
 one_init v d d' n n' p p' a a' k k' g g' l m =
     let dir = same_some d d' (sym l.has_dir ∙ m.has_dir) in
     let name = same_text n n' (same_some _ _ (sym l.has_name ∙ m.has_name)) in
     let peer = same_text p p' (same_some _ _ (sym l.has_peer ∙ m.has_peer)) in
     let at = same_address_text a a' (same_some _ _ (sym l.has_at ∙ m.has_at)) in
     let text : l.has_key.0 ≡ m.has_key.0 = same_some _ _ (sym l.has_key.1 ∙ m.has_key.1) in
-    let key = same_bytes k k' l.has_key.2.bytes m.has_key.2.bytes (sym l.has_key.2.encoded ∙ text ∙ m.has_key.2.encoded) in
+    let key = same_bytes k k' l.has_key.2.bytes m.has_key.2.bytes (sym l.has_key.2.is_text ∙ text ∙ m.has_key.2.is_text) in
     let ledger = same_ledger g g' (same_some _ _ (sym l.has_ledger ∙ m.has_ledger)) in
     λ i. Init (dir i) (name i) (peer i) (at i) (key i) (ledger i)
 

@@ -1,9 +1,8 @@
 -- Which words list which command.
 use Rattle.std.specs.Prelude.{◌≡◌, ◌≤◌, ℕ, List, [], ◌∷◌, length, codes, Option, Some, None, true, false, ◌≢◌}
 use Rattle.base64.specs.GeneralPurpose.{IsBytes}
-use Rattle.base64.specs.Rfc4648.{encode_symbols}
 use Rattle.clap.specs.Words.{App, Text}
-use Rattle.satp_base.specs.Canonical.{base64url}
+use Rattle.satp_base.specs.Signatures.{encoded}
 use Rattle.satp_base.specs.Values.{address_text, name_text}
 use Rattle.satp_base.specs.declared.address.Address.{Address}
 use Rattle.satp_base.specs.declared.ledger.LedgerKind.{LedgerKind}
@@ -13,9 +12,9 @@ use Rattle.satp_words.specs.Options.{IsUtf8All, Takes, app, named, value}
 use Rattle.satp_words.specs.declared.command.Command.{Command}
 use Rattle.satp_words.specs.declared.command.Command.TheVariants.{Answer, Check, Init}
 
--- strict base64url (RFC 4648, section 5) of 32 to 64 bytes
+-- the base64url (RFC 4648, section 5) of 32 to 64 bytes, without padding
 pub record IsKey (text key : List ℕ) : Type 0 where
-  pub encoded : text ≡ encode_symbols base64url key
+  pub is_text : text ≡ encoded key
   pub least : 32 ≤ length key
   pub most : length key ≤ 64
   pub bytes : IsBytes key

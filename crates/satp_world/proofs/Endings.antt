@@ -44,11 +44,11 @@ use Rattle.satp_world.proofs.RuleMoves.{entry-moved}
 use Rattle.satp_world.proofs.Runs.{Run, act_a, act_b, begins, begins_again, both_sides, finds_a, note_a, note_b, says_again_a, sends_a, sends_b, succeeds_a}
 use Rattle.satp_world.proofs.WorldLaw.{law_safety}
 
-no-entry : (f : Founding) (s : SessionId) → entry_of (first_book f).entries s ≡ Absent
+pub no-entry : (f : Founding) (s : SessionId) → entry_of (first_book f).entries s ≡ Absent
 no-entry f s = ap (λ o. option_map_or (λ (k : LedgerEntry). k.entry) o Absent) (get-empty session_cmp s)
 
 -- the operation moves the entry
-moves_to : (b : Book) (op : LedgerOp) (s : SessionId) (terms : Terms) (e : Entry) → entry_of b.entries s ≡ e → leads op e ≡ true → Allows b op terms → LedgerRule b op s terms Answer.Done (moved b op s terms)
+pub moves_to : (b : Book) (op : LedgerOp) (s : SessionId) (terms : Terms) (e : Entry) → entry_of b.entries s ≡ e → leads op e ≡ true → Allows b op terms → LedgerRule b op s terms Answer.Done (moved b op s terms)
 moves_to b op s terms e is line allows = inr (ap (leads op) is ∙ line, allows, refl)
 
 module _ (st : Setting) (fa fb : Founding) (s : SessionId) (named : s.gateway ≡ st.a) (terms : Terms) where
@@ -339,44 +339,44 @@ module _ (st : Setting) (fa fb : Founding) (s : SessionId) (named : s.gateway �
 
 -- ---- a case in which both ledgers allow the transfer
 
-abbrev letter : (c : ℕ) → IsTrue (holds_name 1 (c ∷ replicate 31 0)) → Name
+abbrev pub letter : (c : ℕ) → IsTrue (holds_name 1 (c ∷ replicate 31 0)) → Name
 letter c valid = record { bytes = c ∷ replicate 31 0; count = 1; valid = valid }
 
-abbrev alpha : Name
+abbrev pub alpha : Name
 alpha = letter 97 refl
 
-abbrev beta : Name
+abbrev pub beta : Name
 beta = letter 98 refl
 
-abbrev gold : Name
+abbrev pub gold : Name
 gold = letter 103 refl
 
-abbrev ann : Name
+abbrev pub ann : Name
 ann = letter 110 refl
 
-abbrev amount : (n : ℕ) → 1 ≤ n → n ≤ 9007199254740991 → Amount
+abbrev pub amount : (n : ℕ) → 1 ≤ n → n ≤ 9007199254740991 → Amount
 amount n low high = record { number = n; low = low; high = high }
 
-abbrev quarter : Terms
+abbrev pub quarter : Terms
 quarter = record { amount = amount 250 (omega arith) (omega arith); asset = gold; beneficiary = beta; originator = ann }
 
-abbrev with_gold : Founding
+abbrev pub with_gold : Founding
 with_gold = record { assets = record { name = gold; cap = amount 1000 (omega arith) (omega arith) } ∷ []; holds = record { asset = gold; owner = ann; amount = amount 500 (omega arith) (omega arith) } ∷ [] }
 
 other_names : alpha ≢ beta
 other_names e = let bad : 97 ≡ 98 = ap (λ (n : Name). get_or n.bytes 0 0) e in absurd (omega (arith, bad))
 
-no-sum : (f : LedgerEntry → ℕ) → sum_entries f (first_book with_gold).entries ≡ 0
+pub no-sum : (f : LedgerEntry → ℕ) → sum_entries f (first_book with_gold).entries ≡ 0
 no-sum f = ap (sum_by (λ (e : SessionId × LedgerEntry). f e.1)) (entries_empty session_cmp sessions_total exact_sessions)
 
-can_lock : 250 ≤ free_of (first_book with_gold) gold ann
+pub can_lock : 250 ≤ free_of (first_book with_gold) gold ann
 can_lock =
     let a = no-sum (given gold ann) in
     let b = no-sum (taken gold ann) in
     let c : held with_gold gold ann ≡ 500 = refl in
     omega (arith, a, b, c)
 
-can_mint : total_of (first_book with_gold) gold + 250 ≤ 1000
+pub can_mint : total_of (first_book with_gold) gold + 250 ≤ 1000
 can_mint =
     let a = no-sum (given_to_all gold) in
     let b = no-sum (taken_of_all gold) in

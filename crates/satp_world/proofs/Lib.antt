@@ -24,6 +24,7 @@ pub mod ReadOff
 pub mod TextSizes
 pub mod Runs
 pub mod Endings
+pub mod LedgerLaw
 pub mod Amounts
 pub mod Books
 pub mod TotalLaw

@@ -1,17 +1,16 @@
 -- What no move does.
-use Rattle.std.proofs.Common.{◌≡◌, ◌≢◌, ◌+◌, ◌<◌, ◌≤◌, Bool, true, false, cond, List, [], ◌∷◌, ◌++◌, length, Option, Some, None, refl, sym, ap, subst, ◌∙◌, arith}
-use Rattle.std.specs.Prelude.{filter, slice_get, nat_le, ◌&&◌}
-use Rattle.std.proofs.lemmas.Bool.{leb-true}
-use Rattle.std.proofs.lemmas.List.{length_push, length-map, append-nil}
+use Rattle.std.proofs.Common.{◌≡◌, ◌≢◌, ◌⊎◌, inl, inr, ℕ, ◌+◌, ◌-◌, ◌<◌, ◌≤◌, Bool, true, false, cond, List, [], ◌∷◌, ◌++◌, length, Option, Some, None, refl, sym, ap, ◌∙◌, arith}
+use Rattle.std.specs.Prelude.{drop, filter, slice_get}
+use Rattle.std.proofs.lemmas.List.{length_push, length-drop, length-map, append-nil}
 use Rattle.std.proofs.lemmas.List.Elements.{filter-append}
 use Rattle.satp_base.specs.Canonical.{part_kind}
-use Rattle.satp_base.specs.Chains.{head_of, message_at}
-use Rattle.satp_base.specs.Forms.{IsBody, IsMessage, are_entries}
+use Rattle.satp_base.specs.Chains.{head_of, message_at, name_of, role_at}
+use Rattle.satp_base.specs.Forms.{IsMessage}
 use Rattle.satp_base.specs.Founding.{Founding}
+use Rattle.satp_base.specs.LedgerRule.{entry_of}
 use Rattle.satp_base.specs.Signatures.{own}
 use Rattle.satp_base.specs.Tales.{has, other}
 use Rattle.satp_base.specs.declared.ledger.Entry.TheVariants.{Burnt}
-use Rattle.satp_base.specs.declared.message.Body.{Body}
 use Rattle.satp_base.specs.declared.message.Body.TheVariants as body
 use Rattle.satp_base.specs.declared.message.Kind.TheVariants.{CommitReady}
 use Rattle.satp_base.specs.declared.message.Message.{Message}
@@ -23,7 +22,7 @@ use Rattle.satp_base.specs.declared.record.Rec.TheVariants.{Began, Took, Made, D
 use Rattle.satp_base.specs.declared.session.SessionId.{SessionId}
 use Rattle.satp_base.specs.declared.view.View.{View}
 use Rattle.satp_world.specs.Sessions.{HasMint, tale_of}
-use Rattle.satp_world.specs.Worlds.{Gateway, IsNote, Reached, Sayable, Setting, Side, SideMoves, Stored, Text, World, WorldMoves, begun, began_as, chain_in, last_texts, message_from, most_sessions, name_at, recipient_for, session_in, side_at, with_side, records_of, view_in}
+use Rattle.satp_world.specs.Worlds.{Gateway, IsNote, IsSafeWorld, opposite, Reached, Sayable, Setting, Side, SideMoves, Stored, Text, World, WorldMoves, begun, began_as, chain_in, last_texts, message_from, most_sessions, name_at, recipient_for, session_in, side_at, with_side, records_of, view_in}
 use Rattle.satp_world.specs.Worlds.Gateway.{A, B}
 use Rattle.satp_world.specs.Worlds.Reached.{Begins, Goes}
 use Rattle.satp_world.specs.Worlds.Sayable.{Own_text, Recovers, Updates, Succeeds, Knows_none}
@@ -32,7 +31,8 @@ use Rattle.satp_world.specs.Worlds.WorldMoves.{By}
 use Rattle.satp_world.specs.Limits.{WasAsked, IsLimited, IsOneOf, LawLimits}
 use Rattle.satp_base.proofs.TaleTable.{tale-short}
 use Rattle.satp_world.proofs.Chained.{message-of}
-use Rattle.satp_world.proofs.Records.{view-none}
+use Rattle.satp_world.proofs.PairLaw.{role-is}
+use Rattle.satp_world.proofs.Records.{chain-none, view-none}
 use Rattle.satp_world.proofs.WorldLaw.{law_safety}
 use Rattle.satp_base.proofs.SignatureLemmas.{own_shows}
 
@@ -59,26 +59,51 @@ no-burn st a b w r g s h _ (By q side bag m) n e = by_sides g q m h n e
 
 -- ---- what is said
 
-few-in : (entries : List Text) → are_entries entries ≡ true → length entries ≤ 2
-few-in entries h = leb-true _ _ (first (nat_le (length entries) 2) _ h)
+-- whose the session is, by the role of the records
+abbrev WhoseRole : Setting → Gateway → SessionId → Role → Type 0
+WhoseRole st g s role = ((role ≡ Origin) × (s.gateway ≡ name_at st g)) ⊎ ((role ≡ Recipient) × (s.gateway ≡ name_at st (opposite g)))
+
+whose : (st : Setting) (w : World) (k : IsSafeWorld st w) (g : Gateway) (s : SessionId) (v : View) → view_in s (side_at w g).records ≡ Some v → WhoseRole st g s v.role
+whose st w k g s v e = elim (k.named g s v e) [ inl h ↦ inl (role-is Origin _ _ v _ _ e (k.stands g s h), h) | inr h ↦ inr (as_recipient g h e, h) ]
   where
-    first : (x y : Bool) → (x && y) ≡ true → x ≡ true
-    first true y h = refl
-    first false y h = h
+    as_recipient : (g : Gateway) → s.gateway ≡ name_at st (opposite g) → view_in s (side_at w g).records ≡ Some v → v.role ≡ Recipient
+    as_recipient A h e = role-is Recipient (view_in s w.a.records) (view_in s w.b.records) v (entry_of w.a.book.entries s) (entry_of w.b.book.entries s) e (k.stands B s h)
+    as_recipient B h e = role-is Recipient (view_in s w.b.records) (view_in s w.a.records) v (entry_of w.b.book.entries s) (entry_of w.a.book.entries s) e (k.stands A s h)
 
-one-of : (st : Setting) (m : Message) (t : Text) → IsMessage m → t ≡ own st.key m → IsOneOf st t
-one-of st m t f e = record { message = m; formed = f; text = e; few = λ n entries x. few-in entries (subst (λ (b : Body). IsBody b) x f.0).1 }
+-- a message at a place of this side is from this gateway to the other one
+from-here : (st : Setting) (g : Gateway) (s : SessionId) (role : Role) (n : ℕ) → WhoseRole st g s role → role_at n ≡ role → name_of s (recipient_for st g role) (role_at n) ≡ name_at st g
+from-here st g s role n (inl h) p = ap (name_of s (recipient_for st g role)) (p ∙ h.0) ∙ h.1
+from-here st g s role n (inr h) p = ap (name_of s (recipient_for st g role)) (p ∙ h.0) ∙ ap (recipient_for st g) h.0
 
-said-one : (st : Setting) (a b : Founding) (w : World) → Reached st a b w → (g : Gateway) (t : Text) → Sayable st g (side_at w g).records w.bag t → IsOneOf st t
+to-there : (st : Setting) (g : Gateway) (s : SessionId) (role : Role) (n : ℕ) → WhoseRole st g s role → role_at n ≡ role → name_of s (recipient_for st g role) (other (role_at n)) ≡ name_at st (opposite g)
+to-there st g s role n (inl h) p = ap (λ r. name_of s (recipient_for st g role) (other r)) (p ∙ h.0) ∙ ap (recipient_for st g) h.0
+to-there st g s role n (inr h) p = ap (λ r. name_of s (recipient_for st g role) (other r)) (p ∙ h.0) ∙ h.1
+
+-- the last texts, by how many they are
+last-of : (n : ℕ) (texts : List Text) → last_texts n texts ≡ last_texts (length (last_texts n texts)) texts
+last-of n texts = let h = length-drop (length texts - n) texts in let same : length texts - n ≡ length texts - length (last_texts n texts) = omega (arith, h) in ap (λ k. drop k texts) same
+
+said-one : (st : Setting) (a b : Founding) (w : World) → Reached st a b w → (g : Gateway) (t : Text) → Sayable st g (side_at w g).records w.bag t → IsOneOf st w g t
 said-one st a b w r g t (Own_text s v n _ e d p) =
-    let c = (law_safety st a b w r).chains g s v e in
+    let k = law_safety st a b w r in
+    let c = k.chains g s v e in
     let short = tale-short _ c.chain.tale in
     let m = message-of s (recipient_for st g v.role) st.key (Proposal v.terms ∷ c.rest) n t (omega (arith, short, length-map (Proposal v.terms ∷ c.rest) part_kind)) c.chain.formed (ap (λ ts. slice_get ts n) (sym c.chain.each) ∙ d) in
-    one-of st (message_at s (recipient_for st g v.role) (n + 1) m.previous m.part) t m.formed m.text
-said-one st a b w r g _ (Recovers s v e f) = one-of st (message_from st g s (body.Recover (length (chain_in s (side_at w g).records)) (head_of (chain_in s (side_at w g).records)).last)) _ f refl
-said-one st a b w r g _ (Updates s v n e c f) = one-of st (message_from st g s (body.Update (length (chain_in s (side_at w g).records)) (last_texts n (chain_in s (side_at w g).records)))) _ f refl
-said-one st a b w r g _ (Succeeds s v e f) = one-of st (message_from st g s (body.Success (length (chain_in s (side_at w g).records)) (head_of (chain_in s (side_at w g).records)).last)) _ f refl
-said-one st a b w r g _ (Knows_none m n l p e f q i k z) = one-of st (message_from st g m.session (body.Update 0 [])) _ z refl
+    let role = whose st w k g s v e in
+    record {
+      message = message_at s (recipient_for st g v.role) (n + 1) m.previous m.part;
+      formed = m.formed;
+      text = m.text;
+      sender = from-here st g s v.role (n + 1) role p;
+      receiver = to-there st g s v.role (n + 1) role p;
+      says = (n, refl, d);
+    }
+said-one st a b w r g _ (Recovers s v e f) = record { message = message_from st g s (body.Recover (length (chain_in s (side_at w g).records)) (head_of (chain_in s (side_at w g).records)).last); formed = f; text = refl; sender = refl; receiver = refl; says = (refl, refl) }
+said-one st a b w r g _ (Updates s v n e c f) = record { message = message_from st g s (body.Update (length (chain_in s (side_at w g).records)) (last_texts n (chain_in s (side_at w g).records))); formed = f; text = refl; sender = refl; receiver = refl; says = (refl, last-of n (chain_in s (side_at w g).records)) }
+said-one st a b w r g _ (Succeeds s v e f) = record { message = message_from st g s (body.Success (length (chain_in s (side_at w g).records)) (head_of (chain_in s (side_at w g).records)).last); formed = f; text = refl; sender = refl; receiver = refl; says = (refl, refl) }
+said-one st a b w r g _ (Knows_none m n l p e f q i k z) =
+    let none = sym (chain-none m.session (side_at w g).records e) in
+    record { message = message_from st g m.session (body.Update 0 []); formed = z; text = refl; sender = refl; receiver = refl; says = (ap length none, ap (last_texts 0) none) }
 
 idle : (st : Setting) (g : Gateway) (s : SessionId) → IsMessage (message_from st g s (body.Update 0 []))
 idle st g s = ((omega arith, refl), tt)
@@ -187,7 +212,7 @@ law_limits = (λ st a b w r. limited st a b w r, λ st g t z. nothing-first st g
     limited st a b w r = record {
       no_early_burn = no-burn st a b w r;
       no_forgery = λ t g s h n previous part f e not d. not ((law_safety st a b w r).bag t d g s h n previous part f e);
-      no_long_update = said-one st a b w r;
+      no_other_text = said-one st a b w r;
       no_idle_answer = λ g s none z. asked-by st a b w r g s _ none refl z;
       no_more_sessions = bounded st a b w r;
     }

@@ -11,7 +11,7 @@ use Rattle.satp_base.specs.declared.session.SessionId.{SessionId}
 use Rattle.satp_base.specs.declared.ledger.LedgerOp.{LedgerOp}
 use Rattle.satp_base.specs.declared.ledger.LedgerOp.TheVariants.{Lock, Burn, Mint, Assign, Release}
 use Rattle.satp_base.specs.declared.ledger.Entry.{Entry}
-use Rattle.satp_base.specs.declared.ledger.Entry.TheVariants.{Absent, Locked, Minted}
+use Rattle.satp_base.specs.declared.ledger.Entry.TheVariants.{Absent}
 use Rattle.satp_base.specs.declared.ledger.Answer.{Answer}
 use Rattle.satp_base.specs.declared.record.Rec.{Rec}
 use Rattle.satp_base.specs.declared.record.Rec.TheVariants.{Began, Took, Made, Did, Chose, Rescue}
@@ -22,11 +22,11 @@ use Rattle.satp_base.specs.Money.{Book}
 use Rattle.satp_base.specs.LedgerRule.{LedgerRule, entry_of, leads, moved, result_of, terms_of}
 use Rattle.satp_base.specs.Tales.{IsTale, maker, makes, other}
 use Rattle.satp_base.specs.Views.{push}
-use Rattle.satp_base.specs.Roles.{RoleRule, next_of, After}
+use Rattle.satp_base.specs.Roles.{RoleRule, either, next_of, After}
 use Rattle.satp_base.specs.Roles.RoleRule.{Due, Answered, Free}
 use Rattle.satp_base.proofs.RoleLemmas.{role-gives, after-shape, makes-is}
 use Rattle.satp_base.proofs.SessionLemmas.{sessions_total}
-use Rattle.satp_world.specs.Sessions.{Moves, Agrees, can_do}
+use Rattle.satp_world.specs.Sessions.{Moves, Agrees, can_do, entry_is}
 use Rattle.satp_world.specs.Sessions.Moves.{Appends, Learns, Decides}
 use Rattle.satp_world.specs.Worlds.{IsNote, LedgerFits, is_session}
 use Rattle.satp_world.proofs.Records.{session-self}
@@ -40,15 +40,9 @@ does_own : (op : LedgerOp) → can_do op (result_of op) ≡ true
 does_own = elim [ Lock ↦ refl | Burn ↦ refl | Mint ↦ refl | Assign ↦ refl | Release ↦ refl ]
 
 leads_can : (op : LedgerOp) (e : Entry) → leads op e ≡ true → can_do op e ≡ true
-leads_can Lock Absent h = refl
-leads_can Burn Locked h = refl
-leads_can Mint Absent h = refl
-leads_can Assign Minted h = refl
-leads_can Release Absent h = refl
-leads_can Release Locked h = refl
-leads_can Release Minted h = refl
-leads_can _ _ h = absurd (cc h)
+leads_can op e h = ap (λ b. either b (entry_is e (result_of op))) h
 
+-- what the rule answers agrees with the session's entry
 pub agrees-by : (b : Book) (op : LedgerOp) (s : SessionId) (terms : Terms) (a : Answer) (new : Book) → LedgerRule b op s terms a new → Agrees op (entry_of b.entries s) a (entry_of new.entries s)
 agrees-by b op s terms Answer.Done new (inl h) = (subst (λ e. can_do op e ≡ true) (sym h.0) (does_own op), ap (λ x. entry_of x.entries s) h.1 ∙ h.0)
 agrees-by b op s terms Answer.Done new (inr h) = (leads_can op _ h.0, ap (λ x. entry_of x.entries s) h.2 ∙ entry-moved b op s terms)

@@ -50,10 +50,6 @@ pub record Good (role : Role) (h p new : Half) : Type 0 where
   pub side : Side role new
   pub deal : GoesOn role (deal_with role h p) (deal_with role new p)
 
-side-test : (role : Role) (h : Half) → Side role h → side_test role h ≡ true
-side-test Origin h s = origin-test h s
-side-test Recipient h s = recipient-test h s
-
 side-stands : (role : Role) (h : Half) → IsBegun h.view.tale → side_test role h ≡ true → Side role h
 side-stands Origin h i p = origin-stands h i.tale i.begun p
 side-stands Recipient h i p = recipient-stands h i.tale i.begun p

@@ -3,10 +3,10 @@ use Rattle.std.proofs.Common.{◌≡◌, Bool, true, false, List, [], ◌∷◌,
 use Rattle.std.proofs.lemmas.List.{length_push}
 use Rattle.satp_base.specs.declared.message.Kind.{Kind}
 use Rattle.satp_base.specs.declared.message.Kind.TheVariants.{TransferProposal}
-use Rattle.satp_base.specs.Tales.{IsTale, has, kind_eq, last_of}
+use Rattle.satp_base.specs.Tales.{IsTale, comes_behind, has, kind_eq, last_of}
 use Rattle.satp_base.proofs.Finite.{bind, keep, all_of, any_of, In, In-bind, In-keep, from_bind, from_keep, any_of-in, all_of-at}
 use Rattle.satp_base.proofs.Finite.In.{here, there}
-use Rattle.satp_base.proofs.TaleTable.{all_kinds, begun_tales, tales, comes_behind, tale-in, tale-is, kind_eq-is, in_all_kinds, extends-is, extends-by}
+use Rattle.satp_base.proofs.TaleTable.{all_kinds, begun_tales, tales, tale-in, tale-is, kind_eq-is, in_all_kinds, extends-is, extends-by}
 use Rattle.satp_base.proofs.TaleLemmas.{last-push}
 
 -- a tale that begins with the proposal

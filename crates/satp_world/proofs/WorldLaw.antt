@@ -268,11 +268,6 @@ peer_is : (st : Setting) (q g : Gateway) (role : Role) (s : SessionId) → HasRo
 peer_is st q g Origin s h e = ap opposite (same_gateway st g q (sym e ∙ h))
 peer_is st q g Recipient s h e = same_gateway st g (opposite q) (sym e ∙ h)
 
--- the recipient's name is the same whoever looks
-recipient_is : (st : Setting) (q g : Gateway) (role : Role) (s : SessionId) → HasRole st q role s → s.gateway ≡ name_at st g → recipient_for st q role ≡ name_at st (opposite g)
-recipient_is st q g Origin s h e = ap (λ x. name_at st (opposite x)) (sym (same_gateway st g q (sym e ∙ h)))
-recipient_is st q g Recipient s h e = ap (name_at st) (sym (ap opposite (same_gateway st g (opposite q) (sym e ∙ h)) ∙ twice q))
-
 -- of two equal messages of chains
 chain_place : Body → ℕ
 chain_place (body.Chain place previous part) = place

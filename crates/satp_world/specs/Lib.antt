@@ -2,5 +2,6 @@ pub mod Deal
 pub mod Sessions
 pub mod Worlds
 pub mod Examples
+pub mod Ledgers
 pub mod Totals
 pub mod Limits

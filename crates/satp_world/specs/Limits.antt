@@ -1,6 +1,6 @@
 -- What no move does: the near misses of the moves that are possible.
 use Rattle.std.specs.Prelude.{◌≡◌, ◌≢◌, ℕ, ◌+◌, ◌≤◌, List, [], length, slice_get, Some, IsFalse}
-use Rattle.satp_base.specs.Chains.{message_at, role_at}
+use Rattle.satp_base.specs.Chains.{head_of, message_at, role_at}
 use Rattle.satp_base.specs.Forms.{IsMessage}
 use Rattle.satp_base.specs.Founding.{Founding}
 use Rattle.satp_base.specs.Signatures.{own}
@@ -15,18 +15,23 @@ use Rattle.satp_base.specs.declared.message.Part.{Part}
 use Rattle.satp_base.specs.declared.message.Role.{Role}
 use Rattle.satp_base.specs.declared.session.SessionId.{SessionId}
 use Rattle.satp_world.specs.Sessions.{tale_of}
-use Rattle.satp_world.specs.Worlds.{Among, Delivered, Gateway, Reached, Sayable, Setting, Text, World, WorldMoves, begun, chain_in, maker_side, message_from, most_sessions, name_at, opposite, records_of, session_in, side_at}
+use Rattle.satp_world.specs.Worlds.{Among, Delivered, Gateway, Reached, Sayable, Setting, Text, World, WorldMoves, begun, chain_in, last_texts, maker_side, message_from, most_sessions, name_at, opposite, records_of, session_in, side_at}
 
--- what an update carries is at most two texts
-abbrev pub HasFewEntries : Body → Type 0
-HasFewEntries b = (n : ℕ) (entries : List Text) → b ≡ body.Update n entries → length entries ≤ 2
+-- What a body says of a chain with these texts: that the text stands there at its place, how long the chain is and its last link, or its last texts.
+abbrev pub SaysOf : List Text → Text → Body → Type 0
+SaysOf texts t (body.Chain place previous part) = (n : ℕ) × (place ≡ n + 1) × (slice_get texts n ≡ Some t)
+SaysOf texts t (body.Recover n last) = (n ≡ length texts) × (last ≡ (head_of texts).last)
+SaysOf texts t (body.Update n entries) = (n ≡ length texts) × (entries ≡ last_texts (length entries) texts)
+SaysOf texts t (body.Success n last) = (n ≡ length texts) × (last ≡ (head_of texts).last)
 
--- the text is that of one message of this gateway, with at most two entries
-pub record IsOneOf (st : Setting) (t : Text) : Type 0 where
+-- the text is that of one message of this gateway to the other, of its own chain of that session; an update has at most two entries, as every message
+pub record IsOneOf (st : Setting) (w : World) (g : Gateway) (t : Text) : Type 0 where
   pub message : Message
   pub formed : IsMessage message
   pub text : t ≡ own st.key message
-  pub few : HasFewEntries message.body
+  pub sender : message.sender ≡ name_at st g
+  pub receiver : message.receiver ≡ name_at st (opposite g)
+  pub says : SaysOf (chain_in message.session (side_at w g).records) t message.body
 
 -- a `recover` of the session was sent to this gateway by the peer whose session it is
 pub record WasAsked (st : Setting) (w : World) (g : Gateway) (s : SessionId) : Type 0 where
@@ -48,8 +53,8 @@ pub record IsLimited (st : Setting) (w : World) : Type 0 where
   pub no_forgery : (t : Text) (g : Gateway) (s : SessionId) → s.gateway ≡ name_at st g → (n : ℕ) (previous : Link) (part : Part)
       → IsMessage (message_at s (name_at st (opposite g)) (n + 1) previous part) → t ≡ own st.key (message_at s (name_at st (opposite g)) (n + 1) previous part)
       → slice_get (chain_in s (side_at w (maker_side g (role_at (n + 1)))).records) n ≢ Some t → ¬ Delivered st w.bag t
-  -- no update of three messages is said
-  pub no_long_update : (g : Gateway) (t : Text) → Sayable st g (side_at w g).records w.bag t → IsOneOf st t
+  -- no message of the peer is said, none of another chain, and no update of three messages
+  pub no_other_text : (g : Gateway) (t : Text) → Sayable st g (side_at w g).records w.bag t → IsOneOf st w g t
   -- nothing is said of a session that the records don't name, unless the peer asked
   pub no_idle_answer : (g : Gateway) (s : SessionId) → records_of s (side_at w g).records ≡ [] → Sayable st g (side_at w g).records w.bag (own st.key (message_from st g s (body.Update 0 []))) → WasAsked st w g s
   -- a gateway begins at most 2,048 sessions in each role

@@ -6,7 +6,7 @@ use Rattle.satp_base.specs.declared.message.Role.{Role}
 use Rattle.satp_base.specs.declared.message.Terms.{Terms}
 use Rattle.satp_base.specs.declared.message.Role.TheVariants.{Origin, Recipient}
 use Rattle.satp_base.specs.declared.ledger.LedgerOp.{LedgerOp}
-use Rattle.satp_base.specs.declared.ledger.LedgerOp.TheVariants.{Lock, Burn, Mint, Assign, Release}
+use Rattle.satp_base.specs.declared.ledger.LedgerOp.TheVariants.{Lock, Mint}
 use Rattle.satp_base.specs.declared.record.Way.{Way}
 use Rattle.satp_base.specs.declared.ledger.Entry.{Entry}
 use Rattle.satp_base.specs.declared.ledger.Entry.TheVariants.{Absent, Locked, Burnt, Minted, Assigned, Released}
@@ -14,28 +14,27 @@ use Rattle.satp_base.specs.declared.ledger.Answer.{Answer}
 use Rattle.satp_base.specs.declared.record.Rec.{Rec}
 use Rattle.satp_base.specs.declared.record.Rec.TheVariants.{Took}
 use Rattle.satp_base.specs.declared.record.Next.TheVariants.{Append, Act}
-use Rattle.satp_base.specs.LedgerRule.{result_of}
+use Rattle.satp_base.specs.LedgerRule.{leads, result_of}
 use Rattle.satp_base.specs.Tales.{IsTale, has, is_committed, is_rolled_back, is_whole, maker, other}
 use Rattle.satp_base.specs.declared.view.View.{View}
 use Rattle.satp_base.specs.Views.{begin, push}
 use Rattle.satp_base.specs.Roles.{both, either, no_way, is_commit, is_back, is_aborted, next_of, After, Other}
 use Rattle.satp_world.specs.Deal.{Deal, Decision, DealStep, IsFreeAtOrigin, IsFreeAtRecipient}
 
--- the operation is answered Done on this entry, where the amounts allow it
+abbrev pub entry_code : Entry → ℕ
+entry_code Absent = 0
+entry_code Locked = 1
+entry_code Burnt = 2
+entry_code Minted = 3
+entry_code Assigned = 4
+entry_code Released = 5
+
+abbrev pub entry_is : Entry → Entry → Bool
+entry_is e f = entry_code e == entry_code f
+
+-- the operation is answered Done on this entry, where the amounts allow it: the table leads on from it, or it is done already
 abbrev pub can_do : LedgerOp → Entry → Bool
-can_do Lock Absent = true
-can_do Lock Locked = true
-can_do Burn Locked = true
-can_do Burn Burnt = true
-can_do Mint Absent = true
-can_do Mint Minted = true
-can_do Assign Minted = true
-can_do Assign Assigned = true
-can_do Release Absent = true
-can_do Release Locked = true
-can_do Release Minted = true
-can_do Release Released = true
-can_do _ _ = false
+can_do op e = either (leads op e) (entry_is e (result_of op))
 
 -- An answer of a ledger that agrees with the session's entry, and the entry after it, whatever the amounts are.
 abbrev pub Agrees : LedgerOp → Entry → Answer → Entry → Type 0
@@ -70,17 +69,6 @@ pub data Moves (role : Role) (h : Half) (peer : List Kind) : Half → Type 0 whe
   Decides : (r : Rec) → Other role h.view r → ((kind : Kind) → r ≢ Took kind) → Moves role h peer (after_record h r)
   -- the operation that the table makes due takes effect, learnt or not
   Acts : (op : LedgerOp) (answer : Answer) (new : Entry) → next_of role h.view ≡ Act op → Agrees op h.entry answer new → Moves role h peer (with_entry h new)
-
-abbrev pub entry_code : Entry → ℕ
-entry_code Absent = 0
-entry_code Locked = 1
-entry_code Burnt = 2
-entry_code Minted = 3
-entry_code Assigned = 4
-entry_code Released = 5
-
-abbrev pub entry_is : Entry → Entry → Bool
-entry_is e f = entry_code e == entry_code f
 
 -- what always holds of the origin's side
 pub record OriginStands (h : Half) : Type 0 where

@@ -1,4 +1,4 @@
-//! Two gateways of one session: what each may do, and what always holds of both.
+//! Two gateways and all their sessions: what each may do, and what always holds of both.
 //!
 //! The laws of this crate stand over definitions alone. They make no call: what each says is its contract.
 #![tactic(auto)]
@@ -6,6 +6,7 @@
 ghost use Rattle.satp_world.specs.Sessions.{LawSessions, LawStep};
 ghost use Rattle.satp_world.specs.Worlds.{LawSafety};
 ghost use Rattle.satp_world.specs.Examples.{LawEndings};
+ghost use Rattle.satp_world.specs.Ledgers.{AgreedIsAnswered, RuleAgrees};
 ghost use Rattle.satp_world.specs.Limits.{LawLimits};
 ghost use Rattle.satp_world.specs.Totals.{LawTotal};
 
@@ -13,6 +14,13 @@ ghost use Rattle.satp_world.specs.Totals.{LawTotal};
 /// of the deal machine or leaves the deal as it is. Ledgers may answer as their amounts allow.
 pub fn law_step()
     ensures { LawStep }
+{}
+
+/// The moves of one session see no amounts. What a ledger answers by its rule is an answer that they allow, with the
+/// entries that it finds and leaves, and every answer that they allow is given by some ledger.
+pub fn law_ledgers()
+    ensures rule { RuleAgrees }
+    ensures answered { AgreedIsAnswered }
 {}
 
 /// In every state that moves of both sides lead to, the asset is never free on both ledgers, a burnt entry has its
@@ -35,9 +43,9 @@ pub fn law_endings()
     ensures { LawEndings }
 {}
 
-/// What no move does: burn before the recipient is ready, take a text that its maker's chain doesn't hold, say an
-/// update of more than two messages, answer on an unknown session that the peer didn't ask for, or begin a session past
-/// the bound of each role.
+/// What no move does: burn before the recipient is ready, take a text that its maker's chain doesn't hold, say a message
+/// of the peer's, one of another chain than its own or an update of more than two messages, answer on an unknown session
+/// that the peer didn't ask for, or begin a session past the bound of each role.
 pub fn law_limits()
     ensures { LawLimits }
 {}

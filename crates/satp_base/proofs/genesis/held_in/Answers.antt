@@ -1,4 +1,4 @@
-use Rattle.std.proofs.Common.{◌∙◌, ◌+◌, ap, arith, sym, refl, true, false}
+use Rattle.std.proofs.Common.{◌∙◌, ◌+◌, ap, arith, sym, true, false}
 use Rattle.satp_base.proofs.GenesisLemmas.{held_counts, held_fits}
 use Rattle.satp_base.proofs.genesis.held_in.Goals as goal
 use Rattle.satp_base.proofs.genesis.held_in.Goals.{then-are_equal, else-are_equal}

@@ -1,4 +1,4 @@
-use Rattle.std.proofs.Common.{◌≡◌, ◌+◌, ◌*◌, ◌≤◌, drop, take}
+use Rattle.std.proofs.Common.{◌≡◌, take}
 use Rattle.satp_base.specs.Founding.{held_among}
 use Rattle.satp_base.proofs.genesis.held_in.Given as goal
 

@@ -1,4 +1,4 @@
-use Rattle.std.proofs.Common.{◌≡◌, ◌∙◌, ap, Some, Bor, List, ℕ}
+use Rattle.std.proofs.Common.{◌∙◌, ap, Some, Bor, List, ℕ}
 use Rattle.satp_base.specs.GenesisText.{part_text}
 use Rattle.satp_base.proofs.GenesisReading.{cut_name, not_both, not_some, on_some, same_ok, same_some}
 use Rattle.satp_base.proofs.genesis.read_hold.Goals as goal

@@ -1,4 +1,4 @@
-use Rattle.std.proofs.Common.{◌≡◌, ◌∙◌, ap, sym, Bor, List, ℕ}
+use Rattle.std.proofs.Common.{◌∙◌, ap, sym, Bor, List, ℕ}
 use Rattle.std.specs.Prelude.{codes, option_map}
 use Rattle.satp_base.proofs.GenesisReading.{asset_of, is_asset, is_neither, on_some, other_kind, parts_of, same_kind}
 use Rattle.satp_base.proofs.genesis.read_line.Goals as goal

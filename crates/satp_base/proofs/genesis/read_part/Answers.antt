@@ -1,4 +1,4 @@
-use Rattle.std.proofs.Common.{◌≡◌, ◌∙◌, ap, ap₂, Some, Bor, List, ℕ}
+use Rattle.std.proofs.Common.{◌∙◌, ap, ap₂, Some, Bor, List, ℕ}
 use Rattle.satp_base.specs.Values.{amount_text}
 use Rattle.satp_base.specs.declared.amount.Amount.{Amount}
 use Rattle.satp_base.specs.declared.name.Name.{Name}

@@ -2,6 +2,7 @@ use Rattle.std.proofs.Common.{inr, arith}
 use Rattle.std.proofs.lemmas.Bool.{both_ways}
 use Rattle.serde_json.specs.View.{view}
 use Rattle.satp_canon.proofs.ReadFaults.{compared_fault, long_fault, made, not_json, only_memory, only_one, values_first}
+use Rattle.satp_canon.proofs.TextFaults.{differs, not_of_values}
 use Rattle.satp_canon.proofs.reader.read.Goals as goal
 
 pub returns-then-text-gt-LONGEST-clause-fault : goal.returns-then-text-gt-LONGEST-clause-fault
@@ -29,3 +30,11 @@ returns-clause-fault c = values_first c.args.text.now (view c.in-Ok.value) _ (om
 
 pub returns-clause-complete : goal.returns-clause-complete
 returns-clause-complete c m = only_memory m c.args.text.now _ (values_first c.args.text.now (view c.in-Ok.value) _ (omega arith) c.in-Ok.ensures.ok.0 c.in-Ok.ensures.ok.1 c.in-Err-message_of.ensures.fault)
+
+pub returns-in-Ok-message_of-clause-canonical : goal.returns-in-Ok-message_of-clause-canonical
+returns-in-Ok-message_of-clause-canonical c at =
+    let e = c.in-Ok-message_of.ensures in
+    differs c.compared.result c.args.text.now (view c.in-Ok.value) c.in-Ok-message_of.message at c.in-Ok.ensures.ok.0 c.in-Ok.ensures.ok.1 e.message e.reads c.compared.ensures.other
+
+pub returns-clause-canonical : goal.returns-clause-canonical
+returns-clause-canonical c at e = absurd (not_of_values (view c.in-Ok.value) _ at c.in-Err-message_of.ensures.fault cc)

@@ -15,7 +15,7 @@ use Rattle.satp_journal.specs.Listing.{IsUnread}
 use Rattle.satp_journal.specs.Opening.{mend_calls}
 use Rattle.satp_journal.specs.State.{Held}
 use Rattle.satp_journal.specs.declared.fault.JournalFault.TheVariants.{Damaged}
-use Rattle.satp_journal.specs.declared.list.Unread.TheVariants as unread
+use Rattle.satp_journal.specs.declared.fault.Unread.TheVariants as unread
 use Rattle.satp_examples.specs.Appending.{gate_in_the_write, Opens, append, opened, at_rest, closed, damaged, of_seven, synced, uncalled}
 use Rattle.satp_examples.specs.Journals.{abc, abc_then, d}
 use Rattle.satp_examples.proofs.Images.{breaks, is_damaged, is_whole}

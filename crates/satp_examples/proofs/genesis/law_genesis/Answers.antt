@@ -1,8 +1,10 @@
-use Rattle.std.proofs.Common.{◌≡◌, ◌≢◌, ◌≤◌, ◌<◌, ◌+◌, ℕ, true, List, [], ◌∷◌, ◌++◌, length, Some, refl, sym, ap, arith, lit≤, lit<, rules}
+use Rattle.std.proofs.Common.{◌≡◌, ◌≢◌, ◌≤◌, ◌<◌, ◌⊎◌, ◌+◌, ℕ, true, List, [], ◌∷◌, ◌++◌, length, Some, refl, sym, ap, ◌∙◌, inl, inr, ⊎_elim, arith, append_assoc, lit≤, lit<, rules}
+use Rattle.std.proofs.lemmas.Bool.{and_parts}
 use Rattle.satp_base.specs.Founding.{Founding}
-use Rattle.satp_base.specs.Lines.{Runs, is_line, lines_text}
+use Rattle.satp_base.specs.Lines.{Front, Runs, StopsAt, are_lines, is_line, lines_text}
 use Rattle.satp_base.specs.declared.genesis.Asset.{Asset}
-use Rattle.satp_examples.specs.Genesis.{Takes, a, b}
+use Rattle.satp_base.proofs.LineLemmas.{one_cut}
+use Rattle.satp_examples.specs.Genesis.{Takes, a, a_gap_b, b}
 use Rattle.satp_examples.specs.Samples.{gold, salt}
 use Rattle.satp_examples.proofs.Books.{gold_genesis, no_genesis}
 use Rattle.satp_examples.proofs.genesis.law_genesis.Goals as goal
@@ -96,4 +98,42 @@ returns-clause-lines c = record {
   not_long_by_its_most = λ n h. let bad : 4 < 4 = h.1 in absurd (omega (arith, bad));
   not_by_no_line = λ number h. let s = h.1 in nothing_left s.lines s.rest s.whole s.more;
   not_a_line_past_the_most = λ number h. let bad : 4 ≤ 3 = h.0 in absurd (omega (arith, bad));
+}
+
+-- ---- what is there behind a fault
+
+gap_line : (l behind : List ℕ) → is_line l ≡ true → 10 ∷ 98 ∷ 10 ∷ [] ≡ l ++ 10 ∷ behind → (next : List (List ℕ)) → ¬ Takes (a ∷ []) l next
+gap_line l behind is e next t = t.0 (sym (one_cut 10 [] l (98 ∷ 10 ∷ []) behind refl is e).0)
+
+-- the lines before the gap: none, or the first
+before_gap : (lines : List (List ℕ)) (rest : List ℕ) (reached : List (List ℕ)) → a_gap_b ≡ lines_text lines ++ rest → are_lines lines ≡ true → Runs Takes [] lines reached → ((length lines ≡ 0) × (reached ≡ [])) ⊎ (reached ≡ a ∷ [])
+before_gap [] rest reached whole each runs = inl (refl, runs)
+before_gap (l ∷ []) rest reached whole each (next, takes, is) =
+    let first = one_cut 10 a l (10 ∷ 98 ∷ 10 ∷ []) rest refl (and_parts _ _ each).0 (whole ∙ append_assoc l (10 ∷ []) rest) in
+    inr (is ∙ takes.1 ∙ ap (λ (x : List ℕ). x ∷ []) (sym first.0))
+before_gap (l ∷ m ∷ ls) rest reached whole each (next, takes, (more, second, runs)) =
+    let parts = and_parts _ _ each in
+    let first = one_cut 10 a l (10 ∷ 98 ∷ 10 ∷ []) (lines_text (m ∷ ls) ++ rest) refl parts.0 (whole ∙ append_assoc l (10 ∷ lines_text (m ∷ ls)) rest) in
+    let gap = one_cut 10 [] m (98 ∷ 10 ∷ []) (lines_text ls ++ rest) refl (and_parts _ _ parts.1).0 (first.1 ∙ append_assoc m (10 ∷ lines_text ls) rest) in
+    absurd (second.0 (sym gap.0))
+
+one_line : (s : StopsAt Takes a_gap_b [] 2) → s.reached ≡ a ∷ []
+one_line s = ⊎_elim (λ none. absurd (omega (arith, s.counted, none.0))) (λ one. one) (before_gap s.lines s.rest s.reached s.whole s.each s.runs)
+
+no_two_lines : (second : List ℕ) → Front Takes a_gap_b [] (a ∷ second ∷ []) → ⊥
+no_two_lines second h =
+    ⊎_elim (λ none. let bad : 2 ≡ 0 = ap length none.1 in omega (arith, bad)) (λ one. let bad : 2 ≡ 1 = ap length one in omega (arith, bad)) (before_gap h.lines h.rest (a ∷ second ∷ []) h.whole h.each h.runs)
+
+pub returns-clause-left : goal.returns-clause-left
+returns-clause-left c = record {
+  those_before = (record { lines = a ∷ []; rest = 10 ∷ 98 ∷ 10 ∷ []; reached = a ∷ []; whole = refl; each = refl; runs = (a ∷ [], takes_a [], refl); counted = refl; more = search rules; refused = gap_line }, refl);
+  not_nothing = λ h. let same = h.1 ∙ one_line h.0 in absurd cc;
+  not_those_behind = λ h. let same = h.1 ∙ one_line h.0 in absurd cc;
+  nothing_of_a_long_text = refl;
+  not_its_first_line = λ h. absurd cc;
+  one = record { lines = a ∷ []; rest = 98 ∷ 10 ∷ []; whole = refl; each = refl; runs = (a ∷ [], takes_a [], refl) };
+  not_past_a_refused_line = no_two_lines b;
+  of_no_line = record { lines = []; rest = a_gap_b; whole = refl; each = refl; runs = refl };
+  of_all_lines = record { lines = a ∷ b ∷ []; rest = []; whole = refl; each = refl; runs = (a ∷ [], takes_a [], (a ∷ b ∷ [], takes_b (a ∷ []), refl)) };
+  not_with_an_empty_line = no_two_lines [];
 }

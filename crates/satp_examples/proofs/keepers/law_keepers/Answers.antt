@@ -1,7 +1,5 @@
-use Rattle.std.proofs.Common.{◌≡◌, ◌<◌, ◌⊎◌, ℕ, zero, suc, Bool, List, [], ◌∷◌, ◌++◌, length, map, refl, sym, ap, subst, inl, inr, arith, lit≤, lit<}
-use Rattle.std.specs.Prelude.{slice_index, Some}
-use Rattle.satp_base.specs.Acts.{founded}
-use Rattle.satp_base.specs.GenesisText.{nothing}
+use Rattle.std.proofs.Common.{◌≡◌, ◌<◌, ◌⊎◌, ℕ, Bool, List, [], ◌∷◌, ◌++◌, length, map, refl, sym, ap, subst, inl, inr, arith, lit≤, lit<}
+use Rattle.std.specs.Prelude.{Some}
 use Rattle.satp_base.specs.LedgerRule.{Operation}
 use Rattle.satp_base.specs.Money.{Book}
 use Rattle.satp_base.specs.declared.genesis.Asset.{Asset}
@@ -17,7 +15,8 @@ use Rattle.satp_examples.specs.Appending.{at_rest}
 use Rattle.satp_examples.specs.Keepers.{accounts, burn, kept, lock, lock_payload, outputs, stored_lock, with_lock}
 use Rattle.satp_examples.specs.Ledgers.{new_book}
 use Rattle.satp_examples.specs.Samples.{units}
-use Rattle.satp_examples.proofs.Books.{gold_genesis, lock_changes, lock_is, lock_leaves, lock_rule, locked_is, locked_rule, no_burn, no_genesis}
+use Rattle.satp_examples.proofs.Books.{gold_genesis, lock_changes, lock_is, lock_leaves, lock_rule, locked_is, locked_rule, no_burn}
+use Rattle.satp_examples.proofs.KeptJournals.{byte_in, kind_alone, other_kind}
 use Rattle.satp_examples.proofs.keepers.law_keepers.Goals as goal
 
 unlike : (x y : ℕ) → (x < y) ⊎ (y < x) → x ≡ y → ⊥
@@ -31,19 +30,6 @@ another_book (next, rule, is) = lock_changes (subst (λ b. new_book ≡ b) (lock
 
 out_of_order : (book : Book) → ¬ Runs new_book (burn ∷ []) book
 out_of_order book (next, rule, is) = no_burn next rule
-
-kind_alone : IsJournal Accounts (accounts ∷ [])
-kind_alone = (founded nothing, (nothing, [], record { valid = no_genesis; runs = refl; list = refl }))
-
--- the byte at this place of the payload at that one
-byte_in : List (List ℕ) → ℕ → ℕ → ℕ
-byte_in [] n k = 0
-byte_in (q ∷ qs) zero k = slice_index q k
-byte_in (q ∷ qs) (suc n) k = byte_in qs n k
-
-other_kind : IsJournal Accounts (outputs ∷ []) → ⊥
-unfolding byte_in
-other_kind (book, (genesis, acts, l)) = unlike 2 1 (inr (lit< tt)) (ap (λ qs. byte_in qs 0 1) l.list)
 
 no_kind : IsJournal Accounts [] → ⊥
 no_kind (book, (genesis, acts, l)) = let bad = l.list in absurd cc

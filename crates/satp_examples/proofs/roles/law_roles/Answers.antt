@@ -1,6 +1,6 @@
 use Rattle.std.proofs.Common.{◌≡◌, false, [], ◌∷◌, ◌++◌, refl, inl, inr, lit≤, take}
 use Rattle.satp_base.specs.Roles.RoleRule.{Due, Answered, Free}
-use Rattle.satp_base.specs.Tales.{IsTale, eleven, last_of}
+use Rattle.satp_base.specs.Tales.{IsTale, comes_behind, eleven, last_of}
 use Rattle.satp_base.specs.Tales.IsTale.{Onward}
 use Rattle.satp_base.specs.declared.ledger.Answer.TheVariants as answer
 use Rattle.satp_base.specs.declared.ledger.LedgerOp.TheVariants.{Lock, Burn, Mint}
@@ -10,7 +10,7 @@ use Rattle.satp_base.specs.declared.record.Cause.TheVariants.{Aborted, Rejected}
 use Rattle.satp_base.specs.declared.record.Rec.TheVariants.{Took, Made, Did, Chose, Rescue}
 use Rattle.satp_base.specs.declared.record.Way.TheVariants.{Commit, Back}
 use Rattle.satp_base.proofs.RoleLemmas.{after-chose, after-did, after-shape}
-use Rattle.satp_base.proofs.TaleTable.{comes_behind, extends-by}
+use Rattle.satp_base.proofs.TaleTable.{extends-by}
 use Rattle.satp_examples.specs.Roles.{OriginMay, RecipientMay, ready, up_to_ready, up_to_the_lock}
 use Rattle.satp_examples.proofs.roles.law_roles.Goals as goal
 

@@ -1,20 +1,21 @@
-use Rattle.std.proofs.Common.{◌≡◌, ◌≢◌, ℕ, [], ◌∷◌, length, Option, Some, None, option_map, Ok, Err, refl, ap, inl, inr, arith, rules, length-append}
+use Rattle.std.proofs.Common.{◌≡◌, ◌≢◌, ℕ, [], ◌∷◌, length, Option, Some, None, option_map, Ok, Err, refl, ap, subst, inl, inr, arith, rules, length-append}
 use Rattle.std.specs.Option.{option_map_or}
 use Rattle.satp_base.specs.Calls.{Told, made}
+use Rattle.satp_base.specs.Format.{Damage}
 use Rattle.satp_base.specs.Segments.{append_events}
 use Rattle.satp_base.specs.declared.area.Area.TheVariants.{JournalA}
 use Rattle.satp_base.specs.declared.ledger.LedgerCall.TheVariants.{Found}
 use Rattle.satp_base.proofs.Readings.{never_both, one_damage, one_list}
-use Rattle.satp_gateway.specs.SettingUp.{Opens, UnlessFailed, founds}
-use Rattle.satp_gateway.specs.declared.fault.SetUpFault.TheVariants.{Already, Damaged}
-use Rattle.satp_examples.specs.Appending.{closed, damaged}
+use Rattle.satp_gateway.specs.SettingUp.{Opens, SetUpAnswers, UnlessFailed, founds, tells}
+use Rattle.satp_gateway.specs.declared.fault.SetUpFault.TheVariants.{Already, Damaged, Memory}
+use Rattle.satp_examples.specs.Appending.{closed, damaged, opened as journal_of}
 use Rattle.satp_examples.specs.Journals.{abc, d}
 use Rattle.satp_examples.specs.SetUps.{empty, opened, plan, without_ledger}
 use Rattle.satp_examples.proofs.Images.{is_damaged, is_whole}
 use Rattle.satp_examples.proofs.set_ups.law_set_ups.Goals as goal
 
 opens : Opens [] (Some empty) (Some opened)
-opens = ([], refl, search rules, refl)
+opens = (journal_of [], refl, ([], (refl, search rules, refl, refl), refl))
 
 some : abc ∷ [] ≢ []
 some e = absurd cc
@@ -26,15 +27,24 @@ not_founded : (o : Option Told) → Some without_ledger ≡ option_map (made 4 (
 not_founded None e = absurd cc
 not_founded (Some t) e = let none : 0 ≡ length (founds plan t).asks = ap asks e in let more = length-append t.asks (Found plan.kind plan.genesis ∷ []) in absurd (omega (arith, none, more))
 
+founded_once : SetUpAnswers plan (tells (Some empty) None) (tells (Some (founds plan opened)) None) (Err Memory) → ⊥
+founded_once (inl (inl e, book)) = let bad : 1 ≡ 0 = ap asks e in omega (arith, bad)
+founded_once (inl (inr e, book)) = let bad : 1 ≡ 0 = ap asks e in omega (arith, bad)
+founded_once (inr ((journal, list, (image, finds, e)), book)) = let bad : 1 ≡ 0 = ap asks e in omega (arith, bad)
+
 pub returns-clause-answers : goal.returns-clause-answers
 returns-clause-answers c = record {
   done = (Some opened, opens, (refl, (refl, refl)));
-  already = ((abc ∷ [], some, (closed, refl, is_whole, refl)), refl);
-  no_memory = (inr opens, refl);
+  already = ((abc ∷ [], some, (journal_of (abc ∷ []), refl, (closed, (refl, is_whole, refl, refl), refl))), refl);
+  no_memory = inr (opens, refl);
+  no_memory_for_the_journal = inl (inl refl, refl);
+  damaged_journal = ((damaged, refl, is_damaged, refl), refl);
   founding_failed = inr (Some opened, opens, inl (([], inr refl, inr refl), refl));
   not_done_without_its_ledger = λ h. let bad = h.2.1.0 in absurd cc;
   not_done_without_a_founding = λ h. not_founded h.0 h.2.0;
   not_already_and_founded = λ h. let bad = h.1 in absurd cc;
+  not_without_memory_and_founded = founded_once;
+  not_damaged_where_whole = λ at h. never_both closed (abc ∷ []) at is_whole (subst (λ x. Damage x at) h.0.1 h.0.2);
 }
 
 already_done : UnlessFailed (Err Already) (Ok tt) → ⊥

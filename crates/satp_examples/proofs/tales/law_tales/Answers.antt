@@ -1,9 +1,9 @@
 use Rattle.std.proofs.Common.{◌≡◌, ◌≤◌, ℕ, false, List, [], ◌∷◌, ◌++◌, take, refl, lit≤, lit<}
-use Rattle.satp_base.specs.Tales.{IsTale, eleven, last_of}
+use Rattle.satp_base.specs.Tales.{IsTale, comes_behind, eleven, last_of}
 use Rattle.satp_base.specs.Tales.IsTale.{Onward, Rolling, Rejecting}
 use Rattle.satp_base.specs.declared.message.Kind.{Kind}
 use Rattle.satp_base.specs.declared.message.Kind.TheVariants.{TransferProposal, ProposalReceipt, TransferCommence, Reject, Rollback, Recover}
-use Rattle.satp_base.proofs.TaleTable.{comes_behind, extends-by}
+use Rattle.satp_base.proofs.TaleTable.{extends-by}
 use Rattle.satp_examples.proofs.tales.law_tales.Goals as goal
 
 front : (n : ℕ) → n ≤ 11 → IsTale (take n eleven)

@@ -1,4 +1,4 @@
-use Rattle.std.proofs.Common.{◌≡◌, ◌-◌, length, arith, sym, ◌∙◌, ap, List, ℕ, refl, take, drop, Some}
+use Rattle.std.proofs.Common.{arith, sym}
 use Rattle.std.proofs.lemmas.Option.{slice_get_past}
 use Rattle.satp_journal.specs.Pieces.{pieces}
 use Rattle.satp_journal.proofs.PieceLemmas.{piece_at, length-pieces}

@@ -1,6 +1,6 @@
 use Rattle.std.proofs.Common.{refl, [], ◌∷◌}
 use Rattle.satp_base.specs.Segments.{shut_events}
-use Rattle.satp_base.specs.declared.area.Event.TheVariants.{Wrote, Synced}
+use Rattle.satp_base.specs.declared.area.Event.TheVariants.{Wrote}
 use Rattle.satp_journal.proofs.Failing.{fails_first}
 use Rattle.satp_journal.proofs.store.shut.Goals as goal
 

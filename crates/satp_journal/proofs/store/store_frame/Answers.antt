@@ -1,4 +1,4 @@
-use Rattle.std.proofs.Common.{◌≡◌, ◌+◌, refl, ◌∙◌, ap, [], ◌∷◌, option_map}
+use Rattle.std.proofs.Common.{◌+◌, refl, ◌∙◌, ap, [], ◌∷◌, option_map}
 use Rattle.satp_base.specs.Calls.{made}
 use Rattle.satp_base.specs.Segments.{frame_events}
 use Rattle.satp_base.specs.declared.area.Event.TheVariants.{Wrote, Synced}

@@ -1,9 +1,10 @@
 use Rattle.std.proofs.Common.{◌∙◌, Some, Err, ap, refl, subst, sym}
 use Rattle.satp_base.specs.declared.ledger.Entry.{Entry}
+use Rattle.satp_base.proofs.RuleLemmas.{rule-may}
 use Rattle.satp_memory.specs.declared.operate.Halt.{Halt}
 use Rattle.satp_memory.specs.Sites.{OperatesOn, is_change}
 use Rattle.satp_memory.proofs.Siting.{refused-core}
-use Rattle.satp_memory.proofs.Operating.{change-done, rule-after, rule-changes, rule-may, rule-says}
+use Rattle.satp_memory.proofs.Operating.{change-done, rule-after, rule-changes, rule-says}
 use Rattle.satp_memory.proofs.operate.apply.Goals as goal
 
 pub returns-in-Ok : goal.returns-in-Ok

@@ -1,4 +1,4 @@
-use Rattle.std.proofs.Common.{◌≡◌, ◌∙◌, ap, sym, Err}
+use Rattle.std.proofs.Common.{ap, sym, Err}
 use Rattle.std.specs.Prelude.{Option}
 use Rattle.clap.specs.Words.{Text, first_value, found_of}
 use Rattle.clap.specs.declared.parser.matches.ArgMatches.{ArgMatches}

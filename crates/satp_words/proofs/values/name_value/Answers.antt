@@ -1,4 +1,4 @@
-use Rattle.std.proofs.Common.{◌≡◌, ◌∙◌, ap, sym, Some}
+use Rattle.std.proofs.Common.{◌∙◌, ap, sym, Some}
 use Rattle.satp_base.specs.Values.{name_text}
 use Rattle.satp_words.proofs.Listings.{no_value}
 use Rattle.satp_words.proofs.values.name_value.Goals as goal

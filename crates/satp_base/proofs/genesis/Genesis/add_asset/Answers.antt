@@ -1,5 +1,5 @@
-use Rattle.std.proofs.Common.{◌≡◌, ◌∙◌, arith, sym, ap, None}
-use Rattle.satp_base.specs.Founding.{amount_number, cap_among}
+use Rattle.std.proofs.Common.{◌∙◌, arith, ap}
+use Rattle.satp_base.specs.Founding.{cap_among}
 use Rattle.satp_base.proofs.GenesisLemmas.{no_cap, with_asset}
 use Rattle.satp_base.proofs.genesis.Genesis.add_asset.Goals as goal
 

@@ -1,4 +1,4 @@
-use Rattle.std.proofs.Common.{◌≡◌, ◌∙◌, arith, sym, ap, None}
+use Rattle.std.proofs.Common.{◌∙◌, arith, sym, ap}
 use Rattle.std.specs.Prelude.{option_map}
 use Rattle.satp_base.specs.Founding.{amount_number, cap_among, held_among}
 use Rattle.satp_base.proofs.GenesisLemmas.{with_hold}

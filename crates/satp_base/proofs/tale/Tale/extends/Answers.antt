@@ -1,7 +1,7 @@
-use Rattle.std.proofs.Common.{◌≡◌, true, refl, sym, ap, ◌∙◌}
+use Rattle.std.proofs.Common.{refl, sym, ap, ◌∙◌}
 use Rattle.satp_base.specs.declared.message.Kind.TheVariants.{TransferProposal}
-use Rattle.satp_base.specs.Tales.{kind_eq}
-use Rattle.satp_base.proofs.TaleTable.{comes_behind, kind_eq-is, extends-is, extends-by}
+use Rattle.satp_base.specs.Tales.{comes_behind, kind_eq}
+use Rattle.satp_base.proofs.TaleTable.{kind_eq-is, extends-is, extends-by}
 use Rattle.satp_base.proofs.tale.Tale.extends.Goals as goal
 
 pub returns-in-TransferProposal : goal.returns-in-TransferProposal

@@ -1,4 +1,4 @@
-use Rattle.std.proofs.Common.{◌≡◌, true, false, Err, ◌++◌, ◌∷◌, [], Option, ℕ, List, length, option_map, refl, ap, subst, ◌∙◌, sym, arith}
+use Rattle.std.proofs.Common.{◌≡◌, true, false, Err, ◌++◌, ◌∷◌, [], ℕ, List, option_map, ap, subst, ◌∙◌, sym}
 use Rattle.satp_base.specs.Calls.{made, FailsAmong}
 use Rattle.satp_base.specs.Segments.{append_events}
 use Rattle.satp_journal.specs.State.{Held, JournalState, Fits}

@@ -1,10 +1,10 @@
-use Rattle.std.proofs.Common.{◌≡◌, ◌+◌, true, Option, ℕ, List, option_map, subst, inr, sym}
-use Rattle.satp_base.specs.Calls.{Told, made, FailsAmong}
+use Rattle.std.proofs.Common.{◌≡◌, ◌+◌, true, ℕ, List, option_map, subst, inr, sym}
+use Rattle.satp_base.specs.Calls.{made, FailsAmong}
 use Rattle.satp_base.specs.Segments.{mend_events, open_events, shut_events, wants_gate}
-use Rattle.satp_journal.specs.State.{Held, Fits, gate_of}
+use Rattle.satp_journal.specs.State.{Held, gate_of}
 use Rattle.satp_journal.specs.Scanned.{IsScanned}
-use Rattle.satp_journal.specs.Opening.{Finds, FailsToMend, Rests, mend_calls}
-use Rattle.satp_journal.proofs.OpenLemmas.{read_stops, synced_stops, mended_stops, mend_fails_stops, open_rests, rest_fits, held_of, found_is, mended_is, mend_failed}
+use Rattle.satp_journal.specs.Opening.{Finds, mend_calls}
+use Rattle.satp_journal.proofs.OpenLemmas.{read_stops, synced_stops, mended_stops, mend_fails_stops, open_rests, rest_fits, found_is, mended_is, mend_failed}
 use Rattle.satp_journal.proofs.journal.Journal.open.Goals as goal
 
 pub returns-in-Err-clause-stops : goal.returns-in-Err-clause-stops

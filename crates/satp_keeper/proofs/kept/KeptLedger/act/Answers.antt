@@ -1,4 +1,7 @@
-use Rattle.satp_keeper.proofs.Keeping.{tells_ok}
+use Rattle.std.proofs.Common.{subst, sym}
+use Rattle.satp_base.specs.Acts.{MayRefuse}
+use Rattle.satp_base.proofs.RuleLemmas.{rule-may}
+use Rattle.satp_keeper.proofs.Keeping.{fault_may, tells_ok}
 use Rattle.satp_keeper.proofs.kept.KeptLedger.act.Goals as goal
 
 pub returns-in-Ok-clause-told : goal.returns-in-Ok-clause-told
@@ -6,3 +9,15 @@ returns-in-Ok-clause-told g c =
     let old = c.args.self.now in
     let new = c.act.new.self in
     tells_ok c.args.op c.args.session c.args.terms.now (g.C.LedgerCore.book old.core) (g.C.LedgerCore.book new.core) old.journal.held new.journal.held (g.D.Device.told old.disk) (g.D.Device.told new.disk) old.broken new.broken c.in-Ok.answer old.whole new.whole c.in-Ok.ensures.answers
+
+pub returns-in-Ok-clause-answer : goal.returns-in-Ok-clause-answer
+returns-in-Ok-clause-answer g c =
+    let old = c.args.self.now in
+    rule-may (g.C.LedgerCore.book old.core) c.args.op c.args.session c.args.terms.now c.in-Ok.answer (g.C.LedgerCore.book c.act.new.self.core) c.in-Ok.ensures.answers.1
+
+pub returns-in-Err-clause-refused : goal.returns-in-Err-clause-refused
+returns-in-Err-clause-refused g c =
+    let old = c.args.self.now in
+    let new = c.act.new.self in
+    subst (MayRefuse c.args.op) (sym c.act_fault.ensures)
+    (fault_may c.args.op c.args.session c.args.terms.now (g.C.LedgerCore.book old.core) (g.C.LedgerCore.book new.core) old.journal.held new.journal.held (g.D.Device.told old.disk) (g.D.Device.told new.disk) c.in-Err.fault c.in-Err.ensures.answers)

@@ -1,11 +1,12 @@
 use Rattle.std.proofs.Common.{◌≡◌, ◌∙◌, [], Err, Some, ap, inl, option_map, refl, subst, sym}
+use Rattle.satp_base.specs.Acts.{MayRefuse}
 use Rattle.satp_base.specs.Calls.{asked}
 use Rattle.satp_base.specs.declared.ledger.ActFault.{ActFault}
 use Rattle.satp_base.specs.declared.ledger.LedgerCall.TheVariants.{Act}
 use Rattle.satp_memory.specs.Calling.{Calling}
 use Rattle.satp_memory.specs.Sites.{ActTells}
 use Rattle.satp_memory.specs.Steps.{entries_of, told_of}
-use Rattle.satp_memory.proofs.Siting.{done-act, done-entries, entries-same, failed-act, halted-act, halted-count, recounted, still}
+use Rattle.satp_memory.proofs.Siting.{done-act, done-entries, entries-same, failed-act, halted-act, halted-count, halted-may, recounted, still}
 use Rattle.satp_memory.proofs.site.MemSiteLedger.act.Goals as goal
 
 pub returns-in-Err-find_room-clause-told : goal.returns-in-Err-find_room-clause-told
@@ -48,3 +49,9 @@ returns-in-Err-operate-clause-told g c =
     subst (λ (f : ActFault). ActTells op s t b0 (Err f) b1 t0 t2) (sym c.halt.ensures.fault)
     (halted-act op s t t0 t2 b0 b1 c.in-Err-operate.halt c.in-Err-operate.ensures
     (recounted t0 (told_of c.find_room.new.self) (Act op s t) c.halt.new.self.count (ap (λ (k : Calling). k.count) c.halt.ensures.counted ∙ halted-count c.in-Err-operate.halt c.find_room.new.self.calls) told))
+
+pub returns-in-Err-operate-clause-refused : goal.returns-in-Err-operate-clause-refused
+returns-in-Err-operate-clause-refused g c =
+    let old = c.args.self.now in
+    subst (MayRefuse c.args.op) (sym c.halt.ensures.fault)
+    (halted-may c.args.op c.args.session c.args.terms.now (told_of old.disk) (told_of old.disk) (option_map g.C.LedgerCore.book old.core) (option_map g.C.LedgerCore.book c.operate.new.core) c.in-Err-operate.halt c.in-Err-operate.ensures)

@@ -1,0 +1,241 @@
+use Rattle.std.specs.List.{flat_map}
+use Rattle.std.specs.Prelude.{slice_index}
+use Rattle.std.proofs.Common.{◌≡◌, ◌≢◌, ◌<◌, ◌≤◌, ◌⊎◌, ℕ, zero, suc, List, [], ◌∷◌, ◌++◌, take, refl, sym, ap, subst, inl, inr, arith, lit<, rules}
+use Rattle.satp_base.specs.Format.{Damage, EndsAt, IsMendable, Stands, StandsOpened, records}
+use Rattle.satp_base.specs.Segments.{IsCut, open_events}
+use Rattle.satp_base.specs.Laws.{IsInAppend, IsInMend}
+use Rattle.satp_base.specs.Trail.{IsImage, KeepsModel, Trail, extended}
+use Rattle.satp_base.specs.declared.area.Area.TheVariants.{JournalA}
+use Rattle.satp_base.specs.declared.area.Event.{Event}
+use Rattle.satp_base.specs.declared.area.Event.TheVariants.{Wrote, Cut, Left}
+use Rattle.satp_base.proofs.Closing.{append_ends}
+use Rattle.satp_base.proofs.Opens.{open_begins, open_leaves}
+use Rattle.satp_base.proofs.Readings.{never_both, one_end, one_list}
+use Rattle.satp_base.proofs.Standings.{one_free, only_settled}
+use Rattle.satp_journal.proofs.AppendLemmas.{keeps_front}
+use Rattle.satp_journal.specs.Appending.{AtEach}
+use Rattle.satp_journal.specs.Opening.{IsInOpening}
+use Rattle.satp_examples.specs.Appending.{append, at_rest, closed, damaged, uncalled}
+use Rattle.satp_examples.specs.Disks.{behind, one_write, three}
+use Rattle.satp_examples.specs.Journals.{abc, abc_then, d}
+use Rattle.satp_examples.specs.JournalStops.{AppendsBy, HasAnyByte, OpensBy, in_the_write, shut, with_both}
+use Rattle.satp_examples.specs.Segments.{frame, gate, synced}
+use Rattle.satp_examples.proofs.Images.{at_start, both, is_damaged, is_whole, no_gate, within}
+use Rattle.satp_examples.proofs.Mends.{closed_opens_not}
+use Rattle.satp_examples.proofs.journal_stops.law_journal_stops.Goals as goal
+
+unlike : (x y : ℕ) → (x < y) ⊎ (y < x) → x ≡ y → ⊥
+unlike x y (inl h) e = omega (arith, h, e)
+unlike x y (inr h) e = omega (arith, h, e)
+
+-- ---- at each event
+
+any_byte : (n : ℕ) (image : List ℕ) → IsImage (extended (behind []) (take n one_write)) JournalA image → HasAnyByte (take n one_write) image
+any_byte zero image is = (2, only_settled three image is)
+any_byte (suc zero) image is = (_, one_free three image 1 9 (lit< tt) is)
+any_byte (suc (suc n)) image is = (_, one_free three image 1 9 (lit< tt) is)
+
+only_before : ¬ AtEach JournalA (behind []) (behind one_write) (λ events image. events ≡ [])
+only_before (events, is, at) = let same : one_write ≡ events = ap (λ (t : Trail). t.events) is in
+    let none : take 1 events ≡ [] = at 1 three (subst (λ es. IsImage (extended (behind []) (take 1 es)) JournalA three) same (search rules)) in
+    let bad : take 1 one_write ≡ [] = subst (λ es. take 1 es ≡ []) (sym same) none in absurd cc
+
+only_behind : ¬ AtEach JournalA (behind []) (behind one_write) (λ events image. events ≡ one_write)
+only_behind (events, is, at) = let bad : [] ≡ one_write = at 0 three (search rules) in absurd cc
+
+only_new : ¬ AtEach JournalA (behind []) (behind one_write) (λ events image. image ≡ 1 ∷ 9 ∷ 3 ∷ [])
+only_new (events, is, at) = let bad = at 0 three (search rules) in absurd cc
+
+fewer : ¬ AtEach JournalA (behind one_write) (behind []) HasAnyByte
+fewer (events, is, at) = let bad : [] ≡ one_write ++ events = ap (λ (t : Trail). t.events) is in absurd cc
+
+pub returns-clause-each : goal.returns-clause-each
+returns-clause-each c = record {
+  all_of_a_write = (one_write, refl, any_byte);
+  not_only_before = only_before;
+  not_only_behind = only_behind;
+  not_only_the_new_byte = only_new;
+  not_of_fewer_events = fewer;
+}
+
+-- ---- an append
+
+within_three : (n : ℕ) (image : List ℕ) → IsImage (extended at_rest.trail (take n (frame ∷ synced ∷ gate ∷ []))) JournalA image → IsInAppend (abc ∷ []) d image
+within_three zero image is = within 0 image is
+within_three (suc zero) image is = within 1 image is
+within_three (suc (suc zero)) image is = within 2 image is
+within_three (suc (suc (suc zero))) image is = within 3 image is
+within_three (suc (suc (suc (suc n)))) image is = within 3 image is
+
+no_damage : (image : List ℕ) (at : ℕ) → Damage image at → IsInAppend (abc ∷ []) d image → ⊥
+no_damage image at damage w = elim w.list [
+  | inl s ↦ never_both image _ at s damage
+  | inr s ↦ never_both image _ at s damage
+]
+
+-- what is said at one event, of the events that are there
+at_event : (events : List Event) → AppendsBy events → (n : ℕ) (image : List ℕ) → IsImage (extended at_rest.trail (take n events)) JournalA image → IsInAppend (abc ∷ []) d image
+at_event events h n image is = let all = h at_start in let same : events ≡ all.0 = ap (λ (t : Trail). t.events) all.1 in
+    all.2 n image (subst (λ es. IsImage (extended at_rest.trail (take n es)) JournalA image) same is)
+
+other_both : Stands (abc_then (1 ∷ 0 ∷ 1 ∷ 101 ∷ 0 ∷ [])) (abc ∷ (101 ∷ []) ∷ [])
+other_both = search rules
+
+other_payload : IsInAppend (abc ∷ []) d (abc_then (1 ∷ 0 ∷ 1 ∷ 101 ∷ 0 ∷ [])) → ⊥
+other_payload w = elim w.list [
+  | inl s ↦ let same = one_list _ _ _ s other_both in absurd cc
+  | inr s ↦ let same = one_list _ _ _ s other_both in unlike 100 101 (inl (lit< tt)) (ap (λ qs. slice_index (flat_map (λ q. q) qs) 3) same)
+]
+
+abbrev xbc : List ℕ
+xbc = 1 ∷ 0 ∷ 3 ∷ 120 ∷ 98 ∷ 99 ∷ 0 ∷ []
+
+xbc_stands : Stands xbc ((120 ∷ 98 ∷ 99 ∷ []) ∷ [])
+xbc_stands = search rules
+
+over_payload : IsInAppend (abc ∷ []) d xbc → ⊥
+over_payload w = elim w.list [
+  | inl s ↦ let same = one_list _ _ _ s xbc_stands in unlike 97 120 (inl (lit< tt)) (ap (λ qs. slice_index (flat_map (λ q. q) qs) 0) same)
+  | inr s ↦ let same = one_list _ _ _ s xbc_stands in absurd cc
+]
+
+pub returns-clause-append : goal.returns-clause-append
+returns-clause-append c = record {
+  whole = λ rests. (append, refl, within);
+  up_to_the_gate = λ rests. (frame ∷ synced ∷ gate ∷ [], refl, within_three);
+  not_without_the_first_sync = λ h. no_damage damaged 6 is_damaged (at_event _ h 2 damaged (search rules));
+  not_of_another_payload = λ h. other_payload (at_event _ h 3 _ (search rules));
+  not_over_a_payload = λ h. over_payload (at_event _ h 1 xbc (search rules));
+  not_a_cut_of_the_gate = λ h. no_damage (abc_then []) 0 no_gate (at_event _ h 1 (abc_then []) (search rules));
+  rests_behind = λ rests. append_ends at_rest.trail JournalA (abc ∷ []) d (search rules) at_start (λ area. tt);
+  not_without_the_last_sync = λ h. unlike 7 1 (inr (lit< tt)) (ap (λ xs. slice_index xs 6) (h at_start in_the_write (search rules)).1.bytes);
+  not_without_the_payload = λ h. unlike 1 0 (inr (lit< tt)) (ap (λ xs. slice_index xs 6) (h at_start with_both (search rules)).1.bytes);
+  rests = at_start;
+  not_with_a_payload_more = λ h. unlike 0 1 (inl (lit< tt)) (ap (λ xs. slice_index xs 6) (h closed (search rules)).1.bytes);
+}
+
+-- ---- a mend
+
+seven : ◌≢◌ {A = ℕ} 7 1
+seven = search rules
+
+in_write_ends : EndsAt (abc ∷ []) 7 (0 ∷ 1 ∷ 100 ∷ 0 ∷ []) in_the_write
+in_write_ends = record { valid = search rules; bytes = refl }
+
+is_list : Stands in_the_write (abc ∷ [])
+is_list = search rules
+
+is_opened : StandsOpened in_the_write (abc ∷ d ∷ [])
+is_opened = (abc ∷ [], 7, 0 ∷ 1 ∷ 100 ∷ 0 ∷ [], seven, in_write_ends, both)
+
+-- with 1 in place of its gate it stands for this list alone
+opened_is : (longer : List (List ℕ)) → StandsOpened in_the_write longer → longer ≡ abc ∷ d ∷ []
+opened_is longer (list, g, behind, shuts, ends, stands) =
+    let same = one_end (abc ∷ []) list 7 g (0 ∷ 1 ∷ 100 ∷ 0 ∷ []) behind in_the_write in_write_ends ends (inl seven) (inl shuts) in
+    one_list with_both longer (abc ∷ d ∷ []) (subst (λ p. Stands (records p ++ 1 ∷ 0 ∷ 1 ∷ 100 ∷ 0 ∷ []) longer) (sym same.payloads) (subst (λ x. Stands (records list ++ 1 ∷ x) longer) (sym same.behind) stands)) both
+
+-- an image of the mend stands for one of the two lists
+one_of_two : (image : List ℕ) (list : List (List ℕ)) → Stands image list → IsInMend in_the_write (abc ∷ []) image → (list ≡ abc ∷ []) ⊎ (list ≡ abc ∷ d ∷ [])
+one_of_two image list stands (inl s) = inl (one_list image list (abc ∷ []) stands s)
+one_of_two image list stands (inr (longer, opened, s)) = inr (subst (λ l. list ≡ l) (opened_is longer opened) (one_list image list longer stands s))
+
+other_mend : IsInMend in_the_write (abc ∷ []) (abc_then (1 ∷ 0 ∷ 1 ∷ 101 ∷ 0 ∷ [])) → ⊥
+other_mend m = elim (one_of_two _ _ other_both m) [
+  | inl same ↦ absurd cc
+  | inr same ↦ unlike 101 100 (inr (lit< tt)) (ap (λ qs. slice_index (flat_map (λ q. q) qs) 3) same)
+]
+
+no_payload : Stands (0 ∷ 0 ∷ []) []
+no_payload = search rules
+
+no_list : IsInMend in_the_write (abc ∷ []) (0 ∷ 0 ∷ []) → ⊥
+no_list m = elim (one_of_two _ _ no_payload m) [
+  | inl same ↦ absurd cc
+  | inr same ↦ absurd cc
+]
+
+not_there : IsInMend closed (abc ∷ []) with_both → ⊥
+not_there (inl s) = let same = one_list with_both (abc ∷ []) (abc ∷ d ∷ []) s both in absurd cc
+not_there (inr (longer, opened, s)) = closed_opens_not longer opened
+
+pub returns-clause-mend : goal.returns-clause-mend
+returns-clause-mend c = record {
+  as_it_was = inl is_list;
+  with_the_gate_shut = inl (search rules);
+  with_the_payload_behind = inr (abc ∷ d ∷ [], is_opened, both);
+  not_with_another_payload = other_mend;
+  not_without_the_list = no_list;
+  not_with_what_was_not_there = not_there;
+}
+
+-- ---- an opening
+
+abbrev here : List ℕ → Trail
+here image = (uncalled image).trail
+
+-- at each front of an opening of an image that stands for `abc`
+opening_at : (read : List ℕ) (whole : List Event) (n : ℕ) → Stands read (abc ∷ []) → open_events JournalA read 6 ≡ whole → KeepsModel (extended (here read) whole)
+    → (image : List ℕ) → IsImage (extended (here read) (take n whole)) JournalA image → IsInOpening (here read) JournalA (take n whole) image
+opening_at read whole n list opens all image is = let keeps = keeps_front (here read) whole n all in record {
+  before = λ cut. open_begins (here read) JournalA (take n whole) cut keeps image is;
+  behind = λ rest payloads begins stands mends.
+      subst (λ p. IsInMend read p image) (one_list read (abc ∷ []) payloads list stands)
+      (open_leaves (here read) JournalA (abc ∷ []) rest list mends (subst (λ w. IsCut JournalA w (synced ∷ rest)) (sym opens) (subst (IsCut JournalA whole) begins (n, inl refl)))
+      (subst (λ es. KeepsModel (extended (here read) es)) begins keeps) image (subst (λ es. IsImage (extended (here read) es) JournalA image) begins is));
+}
+
+keeps_mend : KeepsModel (extended (here in_the_write) (synced ∷ shut ∷ synced ∷ []))
+keeps_mend area = (tt, (tt, (tt, tt)))
+
+keeps_sync : KeepsModel (extended (here closed) (synced ∷ []))
+keeps_sync area = (tt, tt)
+
+mended_at : (n : ℕ) (image : List ℕ) → IsImage (extended (here in_the_write) (take n (synced ∷ shut ∷ synced ∷ []))) JournalA image → IsInOpening (here in_the_write) JournalA (take n (synced ∷ shut ∷ synced ∷ [])) image
+mended_at n image is = opening_at in_the_write (synced ∷ shut ∷ synced ∷ []) n is_list refl keeps_mend image is
+
+mended_up_to_gate : (n : ℕ) (image : List ℕ) → IsImage (extended (here in_the_write) (take n (synced ∷ shut ∷ []))) JournalA image → IsInOpening (here in_the_write) JournalA (take n (synced ∷ shut ∷ [])) image
+mended_up_to_gate zero image is = mended_at 0 image is
+mended_up_to_gate (suc zero) image is = mended_at 1 image is
+mended_up_to_gate (suc (suc zero)) image is = mended_at 2 image is
+mended_up_to_gate (suc (suc (suc n))) image is = mended_at 2 image is
+
+in_events : (read : List ℕ) (events : List Event) → OpensBy read events → (n : ℕ) (image : List ℕ) → IsImage (extended (here read) (take n events)) JournalA image → IsInOpening (here read) JournalA (take n events) image
+in_events read events (all, is, at) n image left = let same : events ≡ all = ap (λ (t : Trail). t.events) is in
+    subst (λ es. IsInOpening (here read) JournalA (take n es) image) (sym same) (at n image (subst (λ es. IsImage (extended (here read) (take n es)) JournalA image) same left))
+
+left_longer : ¬ OpensBy closed (synced ∷ Left JournalA (abc_then (0 ∷ 5 ∷ [])) ∷ [])
+left_longer h = let was = (in_events closed _ h 2 (abc_then (0 ∷ 5 ∷ [])) (search rules)).before (1, inr (abc_then (0 ∷ 5 ∷ []), refl, refl)) in
+    let bad : 8 ≤ 7 = was.no_longer in absurd (omega (arith, bad))
+
+mends : IsMendable in_the_write
+mends = inr (inr (abc ∷ d ∷ [], is_opened))
+
+abbrev xbc_then : List ℕ
+xbc_then = 1 ∷ 0 ∷ 3 ∷ 120 ∷ 98 ∷ 99 ∷ 7 ∷ 0 ∷ 1 ∷ 100 ∷ 0 ∷ []
+
+xbc_then_stands : Stands xbc_then ((120 ∷ 98 ∷ 99 ∷ []) ∷ [])
+xbc_then_stands = search rules
+
+over_list : ¬ OpensBy in_the_write (synced ∷ Wrote JournalA 3 (120 ∷ []) ∷ [])
+over_list h = let mend = (in_events in_the_write _ h 2 xbc_then (search rules)).behind _ (abc ∷ []) refl is_list mends in
+    elim (one_of_two _ _ xbc_then_stands mend) [
+      | inl same ↦ unlike 120 97 (inr (lit< tt)) (ap (λ qs. slice_index (flat_map (λ q. q) qs) 0) same)
+      | inr same ↦ absurd cc
+    ]
+
+cut_gate : ¬ OpensBy in_the_write (synced ∷ Cut JournalA 6 ∷ [])
+cut_gate h = let mend = (in_events in_the_write _ h 2 (abc_then []) (search rules)).behind _ (abc ∷ []) refl is_list mends in
+    elim mend [
+      | inl s ↦ never_both (abc_then []) _ 0 s no_gate
+      | inr longer ↦ never_both (abc_then []) _ 0 longer.2 no_gate
+    ]
+
+pub returns-clause-opening : goal.returns-clause-opening
+returns-clause-opening c = record {
+  at_rest = (synced ∷ [], refl, λ n image is. opening_at closed (synced ∷ []) n is_whole refl keeps_sync image is);
+  mended = (synced ∷ shut ∷ synced ∷ [], refl, mended_at);
+  up_to_the_gate = (synced ∷ shut ∷ [], refl, mended_up_to_gate);
+  not_left_longer_by_the_first_sync = left_longer;
+  not_over_a_payload = over_list;
+  not_a_cut_of_the_gate = cut_gate;
+}

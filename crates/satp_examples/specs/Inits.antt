@@ -1,0 +1,97 @@
+-- How `init` ends: the gateway alpha, with a ledger of gold, is to be set up in the directory `d`.
+use Rattle.std.specs.Prelude.{ℕ, List, [], ◌∷◌, codes, replicate, Option, Some, None}
+use Rattle.satp_base.specs.Acts.{founded}
+use Rattle.satp_base.specs.Calls.{Told, entered, made}
+use Rattle.satp_base.specs.Founding.{Founding}
+use Rattle.satp_base.specs.Money.{Book}
+use Rattle.satp_base.specs.Segments.{append_events}
+use Rattle.satp_base.specs.declared.area.Area.TheVariants.{JournalA}
+use Rattle.satp_base.specs.declared.area.Event.TheVariants.{Wrote}
+use Rattle.satp_base.specs.declared.ledger.LedgerKind.TheVariants.{Accounts}
+use Rattle.satp_gateway.specs.SettingUp.{Plan, founds, plan}
+use Rattle.satp_app.specs.Init.{InitRule, Order, order, setup_of}
+use Rattle.satp_app.specs.Outside.{OutsideState, SinkState, SiteState, SourceState}
+use Rattle.satp_app.specs.declared.outcome.Outcome.{Outcome}
+use Rattle.satp_app.specs.declared.outcome.Outcome.TheVariants.{Done, Refused, GenesisRefused, SiteFailed, JournalDamaged, GatewayThere}
+use Rattle.satp_app.specs.declared.outcome.Refusal.TheVariants.{Receiver}
+use Rattle.satp_examples.specs.Appending.{closed, damaged, uncalled}
+use Rattle.satp_examples.specs.Commands.{input, out}
+use Rattle.satp_examples.specs.Genesis.{gold_1000}
+use Rattle.satp_examples.specs.Records.{at_b}
+use Rattle.satp_examples.specs.Samples.{alpha, beta}
+use Rattle.satp_examples.specs.Segments.{synced}
+
+abbrev pub alphas : Order
+alphas = order (codes "d") (setup_of alpha beta at_b (replicate 32 7)) Accounts
+
+-- one asset, and no holding
+abbrev pub genesis_text : List ℕ
+genesis_text = codes "asset gold 1000\n"
+
+abbrev pub gold_alone : Founding
+gold_alone = record { assets = gold_1000 ∷ []; holds = [] }
+
+-- the line has no end
+abbrev pub open_text : List ℕ
+open_text = codes "gold"
+
+abbrev pub site : ℕ → Told → Option Book → SiteState
+site faults told book = record { faults = faults; told = Some told; book = book }
+
+abbrev pub around : SiteState → SourceState → SinkState → OutsideState
+around s i o = record { streams = record { input = i; out = o }; site = s }
+
+-- no call was made on areas with these bytes, this text is on the input, and nothing is printed
+abbrev pub before : List ℕ → List ℕ → OutsideState
+before image text = around (site 0 (uncalled image) None) (input 0 text) (out 0 [])
+
+-- ---- what a site tells
+
+abbrev pub inside : List ℕ → Told
+inside image = entered (codes "d") (uncalled image)
+
+-- the directory was entered, and the journal opened
+abbrev pub vacant : Told
+vacant = made 5 (synced ∷ Wrote JournalA 0 (0 ∷ []) ∷ synced ∷ []) (inside [])
+
+abbrev pub there : Told
+there = made 3 (synced ∷ []) (inside closed)
+
+abbrev pub found_damaged : Told
+found_damaged = made 3 (synced ∷ []) (inside damaged)
+
+-- behind it the set-up: the journal was opened again, the ledger founded and the record stored
+abbrev pub setup_plan : Plan
+setup_plan = plan alphas.setup Accounts gold_alone
+
+abbrev pub reopened : Told
+reopened = made 3 (synced ∷ []) vacant
+
+abbrev pub set_up : Told
+set_up = made 4 (append_events JournalA 0 setup_plan.payload) (founds setup_plan reopened)
+
+-- ---- ends
+
+abbrev pub Ends : OutsideState → OutsideState → Outcome → Type 0
+Ends b a outcome = InitRule alphas b a outcome
+
+-- the ledger that is told
+abbrev pub gold : Option Book
+gold = Some (founded gold_alone)
+
+pub record EndsOfInit : Type 0 where
+  pub done : Ends (before [] genesis_text) (around (site 0 set_up gold) (input 0 []) (out 0 (codes "alpha ready\n"))) Done
+  pub there_already : Ends (before closed genesis_text) (around (site 0 there None) (input 0 genesis_text) (out 0 [])) GatewayThere
+  pub damaged_journal : Ends (before damaged genesis_text) (around (site 0 found_damaged None) (input 0 genesis_text) (out 0 [])) (JournalDamaged 6)
+  pub no_directory : Ends (before [] genesis_text) (around (site 1 (inside []) None) (input 0 genesis_text) (out 0 [])) SiteFailed
+  pub a_line_refused : Ends (before [] open_text) (around (site 0 vacant None) (input 0 []) (out 0 [])) (GenesisRefused 1)
+  pub not_done_without_its_line : ¬ Ends (before [] genesis_text) (around (site 0 set_up gold) (input 0 []) (out 0 [])) Done
+  pub not_done_without_its_ledger : ¬ Ends (before [] genesis_text) (around (site 0 set_up None) (input 0 []) (out 0 (codes "alpha ready\n"))) Done
+  -- the input isn't read where a record is there
+  pub not_there_with_the_input_read : ¬ Ends (before closed genesis_text) (around (site 0 there None) (input 0 []) (out 0 [])) GatewayThere
+  pub not_there_where_it_is_empty : ¬ Ends (before [] genesis_text) (around (site 0 vacant None) (input 0 genesis_text) (out 0 [])) GatewayThere
+  pub not_failed_without_a_fault : ¬ Ends (before [] genesis_text) (around (site 0 (inside []) None) (input 0 genesis_text) (out 0 [])) SiteFailed
+  -- the journal is looked at before the input
+  pub not_refused_where_a_record_is : ¬ Ends (before closed open_text) (around (site 0 there None) (input 0 []) (out 0 [])) (GenesisRefused 1)
+  pub not_refused_at_a_good_line : ¬ Ends (before [] genesis_text) (around (site 0 vacant None) (input 0 []) (out 0 [])) (GenesisRefused 1)
+  pub no_receiver_is_asked : ¬ Ends (before [] genesis_text) (around (site 0 vacant None) (input 0 []) (out 0 [])) (Refused Receiver)

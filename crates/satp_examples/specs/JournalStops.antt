@@ -1,0 +1,84 @@
+-- What a stop may leave of a journal of `abc`, at each event of an append of `d` and of an opening.
+use Rattle.std.specs.Prelude.{◌≡◌, ℕ, List, [], ◌∷◌, Some}
+use Rattle.satp_base.specs.Calls.{made}
+use Rattle.satp_base.specs.Laws.{IsInMend}
+use Rattle.satp_base.specs.declared.area.Area.TheVariants.{JournalA}
+use Rattle.satp_base.specs.declared.area.Event.{Event}
+use Rattle.satp_base.specs.declared.area.Event.TheVariants.{Wrote, Cut, Left}
+use Rattle.satp_journal.specs.Appending.{AppendStops, AtEach, RestsStill}
+use Rattle.satp_journal.specs.Opening.{OpenStops, Rests}
+use Rattle.satp_examples.specs.Appending.{append, at_rest, closed, gate_in_the_write, held, uncalled}
+use Rattle.satp_examples.specs.Disks.{behind, one_write}
+use Rattle.satp_examples.specs.Journals.{abc, abc_then, d}
+use Rattle.satp_examples.specs.Segments.{frame, gate, synced}
+
+-- ---- at each event
+
+-- the one byte that was written may be any
+abbrev pub HasAnyByte : List Event → List ℕ → Type 0
+HasAnyByte events image = (byte : ℕ) × (image ≡ 1 ∷ byte ∷ 3 ∷ [])
+
+pub record ImagesAtEachEvent : Type 0 where
+  pub all_of_a_write : AtEach JournalA (behind []) (behind one_write) HasAnyByte
+  -- before the write, and behind it
+  pub not_only_before : ¬ AtEach JournalA (behind []) (behind one_write) (λ events image. events ≡ [])
+  pub not_only_behind : ¬ AtEach JournalA (behind []) (behind one_write) (λ events image. events ≡ one_write)
+  pub not_only_the_new_byte : ¬ AtEach JournalA (behind []) (behind one_write) (λ events image. image ≡ 1 ∷ 9 ∷ 3 ∷ [])
+  pub not_of_fewer_events : ¬ AtEach JournalA (behind one_write) (behind []) HasAnyByte
+
+-- ---- an append
+
+-- an append of `d` to the journal at rest has come to these events
+abbrev pub AppendsBy : List Event → Type 0
+AppendsBy events = AppendStops d (held (abc ∷ [])) (Some at_rest) (Some (made 4 events at_rest))
+
+-- the journal was `abc` at rest, and behind these events it is this list at rest
+abbrev pub RestsBy : List Event → List (List ℕ) → Type 0
+RestsBy events payloads = RestsStill JournalA (abc ∷ []) payloads (Some at_rest) (Some (made 4 events at_rest))
+
+pub record StopsOfAnAppend : Type 0 where
+  pub whole : AppendsBy append
+  pub up_to_the_gate : AppendsBy (frame ∷ synced ∷ gate ∷ [])
+  pub not_without_the_first_sync : ¬ AppendsBy (frame ∷ gate ∷ synced ∷ [])
+  pub not_of_another_payload : ¬ AppendsBy (Wrote JournalA 7 (0 ∷ 1 ∷ 101 ∷ 0 ∷ []) ∷ synced ∷ gate ∷ [])
+  pub not_over_a_payload : ¬ AppendsBy (Wrote JournalA 3 (120 ∷ []) ∷ [])
+  pub not_a_cut_of_the_gate : ¬ AppendsBy (Cut JournalA 6 ∷ [])
+  pub rests_behind : RestsBy append (abc ∷ d ∷ [])
+  pub not_without_the_last_sync : ¬ RestsBy (frame ∷ synced ∷ gate ∷ []) (abc ∷ d ∷ [])
+  pub not_without_the_payload : ¬ RestsBy append (abc ∷ [])
+  pub rests : Rests (Some at_rest) (held (abc ∷ []))
+  pub not_with_a_payload_more : ¬ Rests (Some at_rest) (held (abc ∷ d ∷ []))
+
+-- ---- an opening
+
+-- a stop in the write of the gate before `d` left 7 there
+abbrev pub in_the_write : List ℕ
+in_the_write = gate_in_the_write d
+
+abbrev pub with_both : List ℕ
+with_both = abc_then (1 ∷ 0 ∷ 1 ∷ 100 ∷ 0 ∷ [])
+
+pub record ImagesOfAMend : Type 0 where
+  pub as_it_was : IsInMend in_the_write (abc ∷ []) in_the_write
+  pub with_the_gate_shut : IsInMend in_the_write (abc ∷ []) (abc_then (0 ∷ 0 ∷ 1 ∷ 100 ∷ 0 ∷ []))
+  -- 1 was being written there before
+  pub with_the_payload_behind : IsInMend in_the_write (abc ∷ []) with_both
+  pub not_with_another_payload : ¬ IsInMend in_the_write (abc ∷ []) (abc_then (1 ∷ 0 ∷ 1 ∷ 101 ∷ 0 ∷ []))
+  pub not_without_the_list : ¬ IsInMend in_the_write (abc ∷ []) (0 ∷ 0 ∷ [])
+  -- no record stood behind the gate
+  pub not_with_what_was_not_there : ¬ IsInMend closed (abc ∷ []) with_both
+
+abbrev pub shut : Event
+shut = Wrote JournalA 6 (0 ∷ [])
+
+-- an opening of an area with these bytes has come to these events
+abbrev pub OpensBy : List ℕ → List Event → Type 0
+OpensBy image events = OpenStops JournalA (Some (uncalled image)) (Some (made 5 events (uncalled image)))
+
+pub record StopsOfAnOpening : Type 0 where
+  pub at_rest : OpensBy closed (synced ∷ [])
+  pub mended : OpensBy in_the_write (synced ∷ shut ∷ synced ∷ [])
+  pub up_to_the_gate : OpensBy in_the_write (synced ∷ shut ∷ [])
+  pub not_left_longer_by_the_first_sync : ¬ OpensBy closed (synced ∷ Left JournalA (abc_then (0 ∷ 5 ∷ [])) ∷ [])
+  pub not_over_a_payload : ¬ OpensBy in_the_write (synced ∷ Wrote JournalA 3 (120 ∷ []) ∷ [])
+  pub not_a_cut_of_the_gate : ¬ OpensBy in_the_write (synced ∷ Cut JournalA 6 ∷ [])

@@ -1,0 +1,9 @@
+// The points at which a site may stand within its steps.
+ghost use Rattle.satp_examples.specs.SitePoints.{PointsOfSteps, SomePointOfSteps, FailuresOfSteps};
+
+/// What stands behind the events of some steps, and what is told where one of them failed.
+pub fn law_site_points()
+    ensures points { PointsOfSteps }
+    ensures some { SomePointOfSteps }
+    ensures failures { FailuresOfSteps }
+{}

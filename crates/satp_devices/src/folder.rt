@@ -93,26 +93,57 @@ fn read_path(dir: &[u8]) -> io::Result<Path<'_>>
     }
 }
 
-/// Makes a directory, and the folders above it, where they are missing. The entries of those that it made survive a stop.
+/// Makes a directory, and the folders above it, where they are missing. Their entries survive a stop.
 fn make_folder<R: Files<File = File>>(files: &R, path: Path<'_>) -> io::Result<()> {
-    let mut missing = 0u64;
+    let missing = count_missing(files, path);
+    if let Some(there) = path.ancestors().nth(missing) {
+        settle(files, there)?;
+    }
+    // From the top: none is made before the entry of that above it is safe.
+    for depth in (0..missing).rev() {
+        if let Some(folder) = path.ancestors().nth(depth) {
+            make(files, folder)?;
+        }
+    }
+    Ok(())
+}
+
+/// How many folders are missing: the directory, that above it, and so on up to the first that is there.
+fn count_missing<R: Files>(files: &R, path: Path<'_>) -> usize {
+    let mut missing = 0usize;
     for folder in path.ancestors() {
-        if folder.exists(files) {
+        if folder.as_str().is_empty() || folder.exists(files) {
             break;
         }
         missing = missing.saturating_add(1);
     }
-    fs::create_dir_all(files, path)?;
-    for folder in path.ancestors() {
-        if missing == 0 {
-            break;
-        }
-        missing -= 1;
-        if let Some(above) = folder.parent() {
-            sync_folder(files, above)?;
-        }
+    missing
+}
+
+/// Makes the entry of a folder that is there safe, since it may have been made just before a program was stopped.
+fn settle<R: Files<File = File>>(files: &R, folder: Path<'_>) -> io::Result<()> {
+    match sync_above(files, folder) {
+        // Where this program may not look, it is the system's owner who made the folder.
+        Err(e) if e.kind() == ErrorKind::PermissionDenied => Ok(()),
+        answer => answer,
     }
-    Ok(())
+}
+
+/// Makes a folder, with its entry. Another program may have made it meanwhile.
+fn make<R: Files<File = File>>(files: &R, folder: Path<'_>) -> io::Result<()> {
+    match fs::create_dir(files, folder) {
+        Err(e) if e.kind() == ErrorKind::AlreadyExists => {}
+        answer => answer?,
+    }
+    sync_above(files, folder)
+}
+
+/// Makes the entry of a folder in that above it survive a stop.
+fn sync_above<R: Files<File = File>>(files: &R, folder: Path<'_>) -> io::Result<()> {
+    match folder.parent() {
+        Some(above) => sync_folder(files, above),
+        None => Ok(()),
+    }
 }
 
 /// Makes the entries of a folder survive a stop. The empty path is where the program runs.

@@ -2,3 +2,4 @@ pub mod Images
 pub mod Books
 pub mod KeptJournals
 pub mod Mends
+pub mod Proposals

@@ -31,3 +31,4 @@ pub mod Inits
 pub mod Accounts
 pub mod MemoryDisks
 pub mod LedgerRecords
+pub mod Runs

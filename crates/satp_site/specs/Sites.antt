@@ -11,7 +11,7 @@ use Rattle.satp_base.specs.declared.ledger.LedgerOp.{LedgerOp}
 use Rattle.satp_base.specs.declared.message.Terms.{Terms}
 use Rattle.satp_base.specs.declared.session.SessionId.{SessionId}
 use Rattle.satp_base.specs.Acts.{ActsOn, MayAdd}
-use Rattle.satp_base.specs.Calls.{risen}
+use Rattle.satp_base.specs.Calls.{Told, risen}
 use Rattle.satp_base.specs.Founding.{Founding}
 use Rattle.satp_base.specs.Money.{Book}
 use Rattle.satp_site.specs.Keeping.{IsFounded, IsRaised, KeptActs, KeptLooks, KeptState, told_book}
@@ -26,9 +26,13 @@ abbrev pub SiteFounds : {T E : Type 0} → LedgerKind → Founding → Result T 
 SiteFounds kind genesis (Ok done) new = (s : KeptState) × (new ≡ Some s) × IsFounded kind genesis s
 SiteFounds kind genesis (Err fault) new = new ≡ None
 
--- An opening leaves the ledger that stands on the disk, which tells nothing, and none where it failed.
+-- it is the ledger that stands on a second disk, whatever that tells
+abbrev pub Raises : KeptState → Type 0
+Raises s = (told : Option Told) × IsRaised told s
+
+-- An opening leaves the ledger that stands on a second disk, and none where it failed.
 abbrev pub SiteRaises : {T E : Type 0} → Result T E → Option KeptState → Type 0
-SiteRaises (Ok done) new = (s : KeptState) × (new ≡ Some s) × IsRaised None s
+SiteRaises (Ok done) new = (s : KeptState) × (new ≡ Some s) × Raises s
 SiteRaises (Err fault) new = new ≡ None
 
 -- what an operation does to the book that a ledger tells, if it tells one

@@ -1,17 +1,35 @@
-ghost use Rattle.std.specs.Prelude.{◌≡◌, None, refl};
+ghost use Rattle.std.specs.Prelude.{◌≡◌, ◌≤◌, ◌+◌, ◌-◌, ◌^◌, [], ◌∷◌, length, option_map, OnOk, OnErr};
+ghost use Rattle.satp_base.specs.Calls.{made, Fails};
 ghost use Rattle.satp_base.specs.Streams.{HasCause};
+ghost use Rattle.satp_base.specs.declared.area.Event.TheVariants.{Wrote, Cut};
 
-use satp_base::{Disk, DiskFault};
+use satp_base::{Area, Disk, DiskFault};
 use satp_devices::FileDisk;
 use std::fs::{File, Files};
 
-/// A disk in a directory that a second disk can stand in too. It tells nothing.
+/// A disk in a directory that a second disk can stand in too.
+///
+/// A site that tells nothing can't promise its disk that a place stands within the area, so that writes and cuts take any place here.
 pub trait Directory: Disk + Drop {
     /// A second disk in the same directory, under the lock of this one, which has to outlive it.
     fn beside(&mut self) -> Result<Self, DiskFault>
+        ensures told { Self.told self.new ≡ Self.told self.old }
         ensures cause { HasCause (Self.faults self.old) (Self.faults self.new) result };
 
-    ghost untold: { (disk : Self) → Self.told disk ≡ None };
+    /// [`Disk::write`] from any place on.
+    fn write_from(&mut self, area: Area, at: u64, bytes: &[u8]) -> Result<(), DiskFault>
+        ensures ok { OnOk result (Self.told self.new ≡ option_map (made 1 (Wrote area at bytes.now ∷ [])) (Self.told self.old)) }
+        ensures fits { OnOk result (at + length bytes.now ≤ 2 ^ 64 - 1) }
+        ensures err { OnErr result (Fails area (Wrote area at bytes.now) (Self.told self.old) (Self.told self.new)) }
+        ensures beside { Self.beside self.old self.new }
+        ensures cause { HasCause (Self.faults self.old) (Self.faults self.new) result };
+
+    /// [`Disk::cut`] to any size.
+    fn cut_to(&mut self, area: Area, size: u64) -> Result<(), DiskFault>
+        ensures ok { OnOk result (Self.told self.new ≡ option_map (made 1 (Cut area size ∷ [])) (Self.told self.old)) }
+        ensures err { OnErr result (Fails area (Cut area size) (Self.told self.old) (Self.told self.new)) }
+        ensures beside { Self.beside self.old self.new }
+        ensures cause { HasCause (Self.faults self.old) (Self.faults self.new) result };
 }
 
 impl<R: Files<File = File> + Copy> Directory for FileDisk<R> {
@@ -19,5 +37,11 @@ impl<R: Files<File = File> + Copy> Directory for FileDisk<R> {
         FileDisk::beside(self)
     }
 
-    ghost untold = { λ _. refl };
+    fn write_from(&mut self, area: Area, at: u64, bytes: &[u8]) -> Result<(), DiskFault> {
+        self.write(area, at, bytes)
+    }
+
+    fn cut_to(&mut self, area: Area, size: u64) -> Result<(), DiskFault> {
+        self.cut(area, size)
+    }
 }

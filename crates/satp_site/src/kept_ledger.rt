@@ -105,6 +105,7 @@ impl<D: Disk + Drop> KeptLedger<D> {
 
 impl<D: Directory> KeptLedger<D> {
     ghost use Rattle.satp_site.specs.Ledgers.{state_of};
+    ghost use Rattle.satp_site.specs.Sites.{Raises};
 
     /// A new ledger of a kind, on a second disk in the directory of this one.
     ///
@@ -115,7 +116,8 @@ impl<D: Directory> KeptLedger<D> {
         kind: LedgerKind,
         genesis: &Genesis,
     ) -> Result<KeptLedger<D>, SiteFault>
-        ensures { IfOk result (λ l. IsFounded kind genesis.now (state_of l)) }
+        ensures founded { IfOk result (λ l. IsFounded kind genesis.now (state_of l)) }
+        ensures disk { D.told disk.new ≡ D.told disk.old }
     {
         match disk.beside() {
             Ok(beside) => match KeptLedger::found(alloc, beside, kind, genesis) {
@@ -130,7 +132,8 @@ impl<D: Directory> KeptLedger<D> {
     ///
     /// It fails only where there is no such disk, or where the keepers fail.
     pub fn open_beside(alloc: Global, disk: &mut D) -> Result<KeptLedger<D>, SiteFault>
-        ensures { IfOk result (λ l. IsRaised None (state_of l)) }
+        ensures raised { IfOk result (λ l. Raises (state_of l)) }
+        ensures disk { D.told disk.new ≡ D.told disk.old }
     {
         match disk.beside() {
             Ok(beside) => match KeptLedger::open(alloc, beside) {

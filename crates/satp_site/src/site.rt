@@ -60,14 +60,17 @@ impl<D: Directory> Device for RealSite<D> {
     ghost keeps_model = { λ s t is. untold_keeps t is };
 }
 
-/// A call on the disk makes one call on the disk of the directory, fails only where that fails, and leaves the ledger alone; entering a directory drops it.
-///
-/// What every call of a disk leaves of it (`beside`) neither no call nor two calls have to leave.
+/// A call on the disk is that call on the disk of the directory, which tells so where it tells. It fails only where that fails, and leaves the ledger alone; entering a directory drops it.
 impl<D: Directory> Disk for RealSite<D> {
-    ghost use Rattle.std.specs.Prelude.{◌≤◌, ◌+◌, ◌-◌, ◌^◌, length, IfOk, OnOk};
+    ghost use Rattle.std.specs.Prelude.{◌≤◌, ◌+◌, ◌-◌, ◌^◌, [], ◌∷◌, length, IfOk, IfSome, OnOk, OnErr};
+    ghost use Rattle.satp_base.specs.Calls.{entered, made, Fails, MayMiss, Reads};
     ghost use Rattle.satp_base.specs.Streams.{HasCause};
+    ghost use Rattle.satp_base.specs.Trail.{seen};
+    ghost use Rattle.satp_base.specs.declared.area.Event.TheVariants.{Wrote, Cut, Synced};
 
     fn enter(&mut self, dir: &[u8]) -> Result<(), DiskFault>
+        ensures done { OnOk result (D.told self.new.disk ≡ option_map (entered dir.now) (D.told self.old.disk)) }
+        ensures failed { OnErr result (MayMiss (entered dir.now) (D.told self.old.disk) (D.told self.new.disk)) }
         ensures count { self.new.faults ≡ count_after self.old.faults result }
         ensures disk { HasCause (D.faults self.old.disk) (D.faults self.new.disk) result }
         ensures call { D.beside self.old.disk self.new.disk }
@@ -79,6 +82,8 @@ impl<D: Directory> Disk for RealSite<D> {
     }
 
     fn length(&mut self, area: Area) -> Result<u64, DiskFault>
+        ensures length { IfOk result (λ n. IfSome (D.told self.old.disk) (λ t. n ≡ length (seen t.trail area))) }
+        ensures looked { D.told self.new.disk ≡ option_map (made 1 []) (D.told self.old.disk) }
         ensures count { self.new.faults ≡ count_after self.old.faults result }
         ensures disk { HasCause (D.faults self.old.disk) (D.faults self.new.disk) result }
         ensures call { D.beside self.old.disk self.new.disk }
@@ -89,6 +94,8 @@ impl<D: Directory> Disk for RealSite<D> {
 
     fn read(&mut self, area: Area, at: u64, into: &mut [u8]) -> Result<usize, DiskFault>
         ensures bound { IfOk result (λ n. n ≤ length into.new) }
+        ensures bytes { IfOk result (λ n. IfSome (D.told self.old.disk) (λ t. Reads (seen t.trail area) at into.new n)) }
+        ensures looked { D.told self.new.disk ≡ option_map (made 1 []) (D.told self.old.disk) }
         ensures count { self.new.faults ≡ count_after self.old.faults result }
         ensures disk { HasCause (D.faults self.old.disk) (D.faults self.new.disk) result }
         ensures call { D.beside self.old.disk self.new.disk }
@@ -99,24 +106,30 @@ impl<D: Directory> Disk for RealSite<D> {
 
     fn write(&mut self, area: Area, at: u64, bytes: &[u8]) -> Result<(), DiskFault>
         ensures fits { OnOk result (at + length bytes.now ≤ 2 ^ 64 - 1) }
+        ensures done { OnOk result (D.told self.new.disk ≡ option_map (made 1 (Wrote area at bytes.now ∷ [])) (D.told self.old.disk)) }
+        ensures failed { OnErr result (Fails area (Wrote area at bytes.now) (D.told self.old.disk) (D.told self.new.disk)) }
         ensures count { self.new.faults ≡ count_after self.old.faults result }
         ensures disk { HasCause (D.faults self.old.disk) (D.faults self.new.disk) result }
         ensures call { D.beside self.old.disk self.new.disk }
         ensures ledger { self.new.ledger ≡ self.old.ledger }
     {
-        counted(&mut self.faults, self.disk.write(area, at, bytes))
+        counted(&mut self.faults, self.disk.write_from(area, at, bytes))
     }
 
     fn cut(&mut self, area: Area, size: u64) -> Result<(), DiskFault>
+        ensures done { OnOk result (D.told self.new.disk ≡ option_map (made 1 (Cut area size ∷ [])) (D.told self.old.disk)) }
+        ensures failed { OnErr result (Fails area (Cut area size) (D.told self.old.disk) (D.told self.new.disk)) }
         ensures count { self.new.faults ≡ count_after self.old.faults result }
         ensures disk { HasCause (D.faults self.old.disk) (D.faults self.new.disk) result }
         ensures call { D.beside self.old.disk self.new.disk }
         ensures ledger { self.new.ledger ≡ self.old.ledger }
     {
-        counted(&mut self.faults, self.disk.cut(area, size))
+        counted(&mut self.faults, self.disk.cut_to(area, size))
     }
 
     fn sync(&mut self, area: Area) -> Result<(), DiskFault>
+        ensures done { OnOk result (D.told self.new.disk ≡ option_map (made 1 (Synced area ∷ [])) (D.told self.old.disk)) }
+        ensures failed { OnErr result (Fails area (Synced area) (D.told self.old.disk) (D.told self.new.disk)) }
         ensures count { self.new.faults ≡ count_after self.old.faults result }
         ensures disk { HasCause (D.faults self.old.disk) (D.faults self.new.disk) result }
         ensures call { D.beside self.old.disk self.new.disk }
@@ -178,6 +191,7 @@ impl<D: Directory> Site for RealSite<D> {
         ensures book { FoundsBook genesis.now result None None }
         ensures founds { SiteFounds kind genesis.now result (option_map state_of self.new.ledger) }
         ensures count { self.new.faults ≡ count_after self.old.faults result }
+        ensures disk { D.told self.new.disk ≡ D.told self.old.disk }
     {
         self.ledger = None;
         match KeptLedger::found_beside(self.alloc, &mut self.disk, kind, genesis) {
@@ -194,6 +208,7 @@ impl<D: Directory> Site for RealSite<D> {
         ensures told { Asks Raise [] result None None }
         ensures raises { SiteRaises result (option_map state_of self.new.ledger) }
         ensures count { self.new.faults ≡ count_after self.old.faults result }
+        ensures disk { D.told self.new.disk ≡ D.told self.old.disk }
     {
         self.ledger = None;
         match KeptLedger::open_beside(self.alloc, &mut self.disk) {

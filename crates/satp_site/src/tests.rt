@@ -1,14 +1,14 @@
 use crate::RealSite;
 use satp_base::{
-    Amount, Answer, Area, Disk, Entry, Genesis, Ledger, LedgerKind, LedgerOp, Name, SessionId,
-    Site, Terms,
+    Amount, Answer, Area, Disk, DiskFault, Entry, Genesis, Ledger, LedgerKind, LedgerOp, Name,
+    SessionId, Site, Terms,
 };
 use satp_devices::FileDisk;
 use std::fs;
 use std::process::Abort;
 use std::test::Fail;
 
-// The helpers below make one call each and say nothing, so that the proof of a test carries no clause of a site's.
+// The helpers below say nothing of what they do, so that the proof of a test carries no clause of a site's.
 
 type FileSite<'a> = RealSite<FileDisk<&'a HostRuntime>>;
 
@@ -57,6 +57,44 @@ fn act(site: &mut FileSite<'_>, op: LedgerOp, given: &Given) -> Option<Answer> {
     site.act(op, given.session, &given.terms).ok()
 }
 
+/// Founded outside of a directory, then in a new one raised, shown and locked: what succeeds.
+fn before_a_founding(site: &mut FileSite<'_>, kind: LedgerKind, given: &Given) -> [bool; 5] {
+    [
+        founds(site, kind, given),
+        enters(site, b"site"),
+        raises(site),
+        look(site, given).is_some(),
+        act(site, LedgerOp::Lock, given).is_some(),
+    ]
+}
+
+/// Founded, and a lock.
+fn founding(site: &mut FileSite<'_>, kind: LedgerKind, given: &Given) -> (bool, Option<Answer>) {
+    (founds(site, kind, given), act(site, LedgerOp::Lock, given))
+}
+
+/// Entered and raised, and what is shown before and behind it.
+fn raising(site: &mut FileSite<'_>, given: &Given) -> ([bool; 2], [Option<Entry>; 2]) {
+    let entered = enters(site, b"site");
+    let before = look(site, given);
+    let raised = raises(site);
+    ([entered, raised], [before, look(site, given)])
+}
+
+/// A burn and a mint, and what is shown behind another founding.
+fn going_on(
+    site: &mut FileSite<'_>,
+    kind: LedgerKind,
+    given: &Given,
+) -> ([Option<Answer>; 2], Option<Entry>) {
+    let answers = [
+        act(site, LedgerOp::Burn, given),
+        act(site, LedgerOp::Mint, given),
+    ];
+    let founded = founds(site, kind, given);
+    (answers, look(site, given).filter(|_| founded))
+}
+
 fn found_and_lock(
     rt: &impl Abort,
     files: &HostRuntime,
@@ -65,37 +103,23 @@ fn found_and_lock(
     given: &Given,
 ) -> Result<(), Fail> {
     let mut site = new_site(files);
-    assert!(rt; !founds(&mut site, kind, given));
-    assert!(rt; enters(&mut site, b"site"));
-    assert!(rt; !raises(&mut site));
-    assert!(rt; look(&mut site, given).is_none());
-    assert!(rt; act(&mut site, LedgerOp::Lock, given).is_none());
-    assert!(rt; founds(&mut site, kind, given));
+    let refused = [false, true, false, false, false];
+    assert!(rt; before_a_founding(&mut site, kind, given) == refused);
+    assert!(rt; founding(&mut site, kind, given) == (true, Some(Answer::Done)));
     let first_record = [1, 0, 2, 0x10, kind_byte];
     assert!(rt; fs::read(files, "site/ledger")?.starts_with(&first_record));
-    assert!(rt; act(&mut site, LedgerOp::Lock, given) == Some(Answer::Done));
     Ok(())
 }
 
-fn raise_and_go_on(
-    rt: &impl Abort,
-    files: &HostRuntime,
-    kind: LedgerKind,
-    given: &Given,
-) -> Result<(), Fail> {
-    let mut again = new_site(files);
-    assert!(rt; enters(&mut again, b"site"));
-    assert!(rt; look(&mut again, given).is_none());
-    assert!(rt; raises(&mut again));
-    assert!(rt; look(&mut again, given) == Some(Entry::Locked));
-    assert!(rt; act(&mut again, LedgerOp::Burn, given) == Some(Answer::Done));
+fn raise_and_go_on(rt: &impl Abort, files: &HostRuntime, kind: LedgerKind, given: &Given) {
+    let mut site = new_site(files);
+    let locked = ([true, true], [None, Some(Entry::Locked)]);
+    assert!(rt; raising(&mut site, given) == locked);
     let taken = Answer::Taken {
         entry: Entry::Burnt,
     };
-    assert!(rt; act(&mut again, LedgerOp::Mint, given) == Some(taken));
-    assert!(rt; founds(&mut again, kind, given));
-    assert!(rt; look(&mut again, given) == Some(Entry::Absent));
-    Ok(())
+    let burnt = ([Some(Answer::Done), Some(taken)], Some(Entry::Absent));
+    assert!(rt; going_on(&mut site, kind, given) == burnt);
 }
 
 #[test]
@@ -104,57 +128,61 @@ fn a_ledger_is_raised_as_the_kind_that_was_founded(rt: HostRuntime) -> Result<()
     for (kind, kind_byte) in [(LedgerKind::Accounts, 1), (LedgerKind::Outputs, 2)] {
         let _ = fs::remove_dir_all(&rt, "site");
         found_and_lock(&rt, &rt, kind, kind_byte, &given)?;
-        raise_and_go_on(&rt, &rt, kind, &given)?;
+        raise_and_go_on(&rt, &rt, kind, &given);
     }
     fs::remove_dir_all(&rt, "site")?;
     Ok(())
 }
 
-fn is_not_raised(rt: &impl Abort, files: &HostRuntime, bytes: &[u8]) -> Result<(), Fail> {
+/// The ledger's file holds these bytes: whether it is raised.
+fn is_raised(files: &HostRuntime, bytes: &[u8]) -> Result<bool, Fail> {
     fs::write(files, "site_damaged/ledger", bytes)?;
     let mut site = new_site(files);
-    assert!(rt; enters(&mut site, b"site_damaged"));
-    assert!(rt; !raises(&mut site));
-    assert!(rt; fs::read(files, "site_damaged/ledger")?.as_slice() == bytes);
-    Ok(())
+    site.enter(b"site_damaged")?;
+    Ok(raises(&mut site))
+}
+
+fn is_left(files: &HostRuntime, bytes: &[u8]) -> Result<bool, Fail> {
+    Ok(fs::read(files, "site_damaged/ledger")?.as_slice() == bytes)
 }
 
 #[test]
 fn a_ledger_that_is_damaged_is_not_raised(rt: HostRuntime) -> Result<(), Fail> {
     let _ = fs::remove_dir_all(&rt, "site_damaged");
     fs::create_dir(&rt, "site_damaged")?;
-    // An open gate without a record.
-    is_not_raised(&rt, &rt, b"\x01\x00\x03ab")?;
-    // A record that names no kind of ledger.
-    is_not_raised(&rt, &rt, b"\x01\x00\x02\x10\x03\x00")?;
+    let open_gate_without_a_record = b"\x01\x00\x03ab".as_slice();
+    let record_of_no_kind = b"\x01\x00\x02\x10\x03\x00".as_slice();
+    for bytes in [open_gate_without_a_record, record_of_no_kind] {
+        assert!(rt; !is_raised(&rt, bytes)?);
+        assert!(rt; is_left(&rt, bytes)?);
+    }
     fs::remove_dir_all(&rt, "site_damaged")?;
     Ok(())
 }
 
-fn write_apart(site: &mut FileSite<'_>) -> Result<(), Fail> {
+fn write_apart(site: &mut FileSite<'_>) -> Result<(), DiskFault> {
+    site.enter(b"site_disk")?;
     site.write(Area::JournalA, 0, b"abc")?;
     site.write(Area::JournalA, 3, b"de")?;
     site.write(Area::JournalB, 0, b"fgh")?;
-    Ok(())
+    site.cut(Area::JournalB, 2)?;
+    site.sync(Area::JournalA)
 }
 
-fn cut_and_read(rt: &impl Abort, site: &mut FileSite<'_>) -> Result<(), Fail> {
+/// How long the second journal is, and how many bytes are read from its second one on, and which.
+fn read_back(site: &mut FileSite<'_>) -> Result<(u64, (usize, [u8; 2])), DiskFault> {
     let mut into = [b'.'; 2];
-    site.cut(Area::JournalB, 2)?;
-    assert!(rt; site.length(Area::JournalB)? == 2);
-    assert!(rt; site.read(Area::JournalB, 1, &mut into)? == 1);
-    assert!(rt; into == *b"g.");
-    Ok(())
+    let length = site.length(Area::JournalB)?;
+    let count = site.read(Area::JournalB, 1, &mut into)?;
+    Ok((length, (count, into)))
 }
 
 #[test]
 fn calls_on_the_disk_reach_the_files(rt: HostRuntime) -> Result<(), Fail> {
     let _ = fs::remove_dir_all(&rt, "site_disk");
     let mut site = new_site(&rt);
-    assert!(rt; enters(&mut site, b"site_disk"));
-    write_apart(&mut site)?;
-    cut_and_read(&rt, &mut site)?;
-    assert!(rt; site.sync(Area::JournalA).is_ok());
+    assert!(rt; write_apart(&mut site).is_ok());
+    assert!(rt; read_back(&mut site) == Ok((2, (1, *b"g."))));
     assert!(rt; fs::read(&rt, "site_disk/journal-a")?.as_slice() == b"abcde".as_slice());
     assert!(rt; fs::read(&rt, "site_disk/journal-b")?.as_slice() == b"fg".as_slice());
     fs::remove_dir_all(&rt, "site_disk")?;

@@ -6,7 +6,7 @@ use std::fs::{self, File, Files};
 use std::process::Abort;
 use std::test::Fail;
 
-/// The entries of a directory have to survive a stop before it is used, and so has the directory's own, where it was made.
+/// The entries of a directory have to survive a stop before it is used, and so have those of the folders that were made for it, in an earlier entering too.
 #[test]
 fn an_entering_syncs_the_directory(rt: HostRuntime) -> Result<(), Fail> {
     let _ = fs::remove_dir_all(&rt, "devices_entered");
@@ -23,11 +23,25 @@ fn an_entering_syncs_the_directory(rt: HostRuntime) -> Result<(), Fail> {
     Ok(())
 }
 
-/// A directory two below a new one is entered while one path can't be synced.
+/// A directory two below a new one is entered, at once or by a further try, while one path can't be synced.
 fn is_entered(rt: &HostRuntime, path: &str) -> bool {
     let opened = Cell::new(Opened::Unsynced);
     let mut disk = FileDisk::new(Hindered::new(rt, path, &opened), rt.alloc());
     enter(&mut disk, b"devices_entered/above/below").is_ok()
+        || enter(&mut disk, b"devices_entered/above/below").is_ok()
+}
+
+/// What stands in a folder that this program may not look into was made by another.
+#[test]
+fn a_folder_that_may_not_be_opened_is_no_hindrance(rt: HostRuntime) -> Result<(), Fail> {
+    let _ = fs::remove_dir_all(&rt, "devices_closed");
+    fs::create_dir_all(&rt, "devices_closed/inner")?;
+    let opened = Cell::new(Opened::Refused);
+    let mut disk = FileDisk::new(Hindered::new(&rt, "devices_closed", &opened), rt.alloc());
+    assert!(rt; enter(&mut disk, b"devices_closed/inner").is_ok());
+    assert!(rt; enter(&mut disk, b"devices_closed/new").is_err());
+    fs::remove_dir_all(&rt, "devices_closed")?;
+    Ok(())
 }
 
 /// The entry of a file that was made survives a stop once a sync of its area has succeeded.

@@ -1,15 +1,11 @@
 use Rattle.std.proofs.Common.{◌≡◌, ◌≢◌, ℕ, List, [], ◌∷◌, ◌++◌, Some, None, length, refl, sym, ap, ◌∙◌, subst, arith, lit≤, length-append}
 use Rattle.std.specs.Fmt.{digits}
 use Rattle.std.specs.Prelude.{codes, slice_index}
-use Rattle.base64.specs.Rfc4648.{encode_symbols}
 use Rattle.satp_base.specs.Canonical.{IsText, canonical, kind_of}
-use Rattle.satp_base.specs.Forms.{IsMessage}
 use Rattle.satp_base.specs.declared.message.Kind.TheVariants.{ProposalReceipt, TransferCommence, TransferProposal}
 use Rattle.satp_base.specs.declared.message.Message.{Message}
 use Rattle.satp_base.specs.declared.message.Terms.{Terms}
 use Rattle.satp_base.specs.declared.name.Name.{Name}
-use Rattle.satp_base.proofs.ChainLemmas.{zero_formed}
-use Rattle.satp_base.proofs.OneText.{one_text}
 use Rattle.satp_canon.specs.FirstFault.{first_fault}
 use Rattle.satp_canon.specs.declared.fault.CanonFault.{CanonFault}
 use Rattle.satp_canon.proofs.ReadFaults.{text_fine}
@@ -19,34 +15,8 @@ use Rattle.satp_app.specs.Texts.{IsOnly}
 use Rattle.satp_examples.specs.Messages.{proposal_text}
 use Rattle.satp_examples.specs.Replies.{commence, proposal, receipt, too_long}
 use Rattle.satp_examples.specs.Samples.{alpha, beta, quarter}
+use Rattle.satp_examples.proofs.Proposals.{only_commence, only_proposal, proposal_formed, proposal_is, the_commence, the_proposal}
 use Rattle.satp_examples.proofs.replies.law_replies.Goals as goal
-
--- ---- messages of a text
-
-proposal_formed : IsMessage proposal
-proposal_formed = ((record { low = lit≤ tt; high = lit≤ tt }, tt), zero_formed)
-
-commence_formed : IsMessage commence
-commence_formed = ((record { low = lit≤ tt; high = lit≤ tt }, refl), zero_formed)
-
-proposal_is : IsText proposal proposal_text
-unfolding canonical encode_symbols digits
-proposal_is = refl
-
-alone : (m : Message) (text : List ℕ) → IsMessage m → IsText m text → IsOnly text m
-alone m text formed is = record { canonical = is; formed = formed; only = λ n other also. one_text n m text also formed other is }
-
-the_proposal : IsOnly proposal_text proposal
-the_proposal = alone proposal proposal_text proposal_formed proposal_is
-
-the_commence : IsOnly (canonical commence) commence
-the_commence = alone commence (canonical commence) commence_formed refl
-
-only_proposal : (m : Message) → IsOnly proposal_text m → m ≡ proposal
-only_proposal m o = the_proposal.only m o.canonical o.formed
-
-only_commence : (m : Message) → IsOnly (canonical commence) m → m ≡ commence
-only_commence m o = the_commence.only m o.canonical o.formed
 
 other_name : alpha ≢ beta
 other_name e = let bad : 5 ≡ 4 = ap (λ (n : Name). n.count) e in absurd (omega (arith, bad))

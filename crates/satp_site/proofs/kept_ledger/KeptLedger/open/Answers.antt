@@ -1,6 +1,4 @@
-use Rattle.std.proofs.Common.{◌≡◌, Bool, true, false, Some, None, refl, sym, subst, ◌∙◌, inr}
-use Rattle.std.specs.Prelude.{if◌then◌else◌}
-use Rattle.satp_base.specs.Money.{Book}
+use Rattle.std.proofs.Common.{refl, subst, inr}
 use Rattle.satp_base.specs.declared.ledger.LedgerKind.TheVariants.{Accounts}
 use Rattle.satp_keeper.specs.Opening.{UnopenedBy}
 use Rattle.satp_keeper.specs.declared.fault.KeeperFault.{KeeperFault}

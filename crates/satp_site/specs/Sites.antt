@@ -1,5 +1,5 @@
 -- What the calls of a real site do to its count of faults and to the ledger that it holds, if it holds one.
-use Rattle.std.specs.Prelude.{◌≡◌, ℕ, List, Option, Some, None, IfSome, Result, Ok, Err}
+use Rattle.std.specs.Prelude.{◌≡◌, ◌⊎◌, ℕ, List, [], Option, Some, None, IfSome, Result, Ok, Err}
 use Rattle.satp_base.specs.declared.area.Event.{Event}
 use Rattle.satp_base.specs.declared.area.Event.TheVariants.{Acted}
 use Rattle.satp_base.specs.declared.ledger.ActFault.{ActFault}
@@ -14,7 +14,11 @@ use Rattle.satp_base.specs.Acts.{ActsOn, MayAdd}
 use Rattle.satp_base.specs.Calls.{Told, risen}
 use Rattle.satp_base.specs.Founding.{Founding}
 use Rattle.satp_base.specs.Money.{Book}
-use Rattle.satp_site.specs.Keeping.{IsFounded, IsRaised, KeptActs, KeptLooks, KeptState, told_book}
+use Rattle.satp_base.specs.Streams.{Rose}
+use Rattle.satp_keeper.specs.Books.{ledger_payloads}
+use Rattle.satp_keeper.specs.Founding.{UnfoundedBy}
+use Rattle.satp_keeper.specs.declared.fault.KeeperFault.{KeeperFault}
+use Rattle.satp_site.specs.Keeping.{IsFounded, IsRaised, IsUnraised, KeptActs, KeptLooks, KeptState, told_book}
 
 -- the count of faults goes up with each call that fails, and with no other
 abbrev pub count_after : {T E : Type 0} → ℕ → Result T E → ℕ
@@ -25,6 +29,15 @@ count_after count (Err fault) = risen count 1
 abbrev pub SiteFounds : {T E : Type 0} → LedgerKind → Founding → Result T E → Option KeptState → Type 0
 SiteFounds kind genesis (Ok done) new = (s : KeptState) × (new ≡ Some s) × IsFounded kind genesis s
 SiteFounds kind genesis (Err fault) new = new ≡ None
+
+-- Why no ledger was founded: the disk of the directory failed to have a second one beside it, or the keeper of that kind gave up on that one.
+abbrev pub IsUnfounded : LedgerKind → Founding → ℕ → ℕ → Type 0
+IsUnfounded kind genesis faults_before faults_after =
+    Rose faults_before faults_after ⊎ ((old new : Option Told) × (fault : KeeperFault) × UnfoundedBy (ledger_payloads kind genesis []) old new fault)
+
+-- why none was opened
+abbrev pub IsUnopened : ℕ → ℕ → Type 0
+IsUnopened faults_before faults_after = Rose faults_before faults_after ⊎ ((old new : Option Told) × (fault : KeeperFault) × IsUnraised old new fault)
 
 -- it is the ledger that stands on a second disk, whatever that tells
 abbrev pub Raises : KeptState → Type 0

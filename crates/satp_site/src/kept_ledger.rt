@@ -105,7 +105,7 @@ impl<D: Disk + Drop> KeptLedger<D> {
 
 impl<D: Directory> KeptLedger<D> {
     ghost use Rattle.satp_site.specs.Ledgers.{state_of};
-    ghost use Rattle.satp_site.specs.Sites.{Raises};
+    ghost use Rattle.satp_site.specs.Sites.{IsUnfounded, IsUnopened, Raises};
 
     /// A new ledger of a kind, on a second disk in the directory of this one.
     ///
@@ -117,6 +117,7 @@ impl<D: Directory> KeptLedger<D> {
         genesis: &Genesis,
     ) -> Result<KeptLedger<D>, SiteFault>
         ensures founded { IfOk result (λ l. IsFounded kind genesis.now (state_of l)) }
+        ensures fault { IfErr result (λ _. IsUnfounded kind genesis.now (D.faults disk.old) (D.faults disk.new)) }
         ensures disk { D.told disk.new ≡ D.told disk.old }
     {
         match disk.beside() {
@@ -133,6 +134,7 @@ impl<D: Directory> KeptLedger<D> {
     /// It fails only where there is no such disk, or where the keepers fail.
     pub fn open_beside(alloc: Global, disk: &mut D) -> Result<KeptLedger<D>, SiteFault>
         ensures raised { IfOk result (λ l. Raises (state_of l)) }
+        ensures fault { IfErr result (λ _. IsUnopened (D.faults disk.old) (D.faults disk.new)) }
         ensures disk { D.told disk.new ≡ D.told disk.old }
     {
         match disk.beside() {

@@ -176,12 +176,12 @@ impl<D: Directory> Ledger for RealSite<D> {
 }
 
 impl<D: Directory> Site for RealSite<D> {
-    ghost use Rattle.std.specs.Prelude.{List, []};
+    ghost use Rattle.std.specs.Prelude.{List, [], IfErr};
     ghost use Rattle.satp_base.specs.Acts.{Asks, FoundEvents, FoundsBook};
     ghost use Rattle.satp_base.specs.declared.area.Event.{Event};
     ghost use Rattle.satp_base.specs.declared.ledger.LedgerCall.TheVariants.{Found, Raise};
     ghost use Rattle.satp_site.specs.Ledgers.{state_of};
-    ghost use Rattle.satp_site.specs.Sites.{SiteFounds, SiteRaises};
+    ghost use Rattle.satp_site.specs.Sites.{IsUnfounded, IsUnopened, SiteFounds, SiteRaises};
 
     ghost one_ledger = { λ s t b told book. untold_ledger t b told };
 
@@ -189,6 +189,7 @@ impl<D: Directory> Site for RealSite<D> {
     fn found(&mut self, kind: LedgerKind, genesis: &Genesis) -> Result<(), SiteFault>
         ensures told { (events : List Event) × FoundEvents result events × Asks (Found kind genesis.now) events result None None }
         ensures book { FoundsBook genesis.now result None None }
+        ensures fault { IfErr result (λ _. IsUnfounded kind genesis.now (D.faults self.old.disk) (D.faults self.new.disk)) }
         ensures founds { SiteFounds kind genesis.now result (option_map state_of self.new.ledger) }
         ensures count { self.new.faults ≡ count_after self.old.faults result }
         ensures disk { D.told self.new.disk ≡ D.told self.old.disk }
@@ -206,6 +207,7 @@ impl<D: Directory> Site for RealSite<D> {
     /// It fails only where no disk was had beside its own, or where the keepers fail.
     fn raise(&mut self) -> Result<(), SiteFault>
         ensures told { Asks Raise [] result None None }
+        ensures fault { IfErr result (λ _. IsUnopened (D.faults self.old.disk) (D.faults self.new.disk)) }
         ensures raises { SiteRaises result (option_map state_of self.new.ledger) }
         ensures count { self.new.faults ≡ count_after self.old.faults result }
         ensures disk { D.told self.new.disk ≡ D.told self.old.disk }

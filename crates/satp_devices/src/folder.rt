@@ -123,7 +123,7 @@ fn count_missing<R: Files>(files: &R, path: Path<'_>) -> usize {
 /// Makes the entry of a folder that is there safe, since it may have been made just before a program was stopped.
 fn settle<R: Files<File = File>>(files: &R, folder: Path<'_>) -> io::Result<()> {
     match sync_above(files, folder) {
-        // Where this program may not look, it is the system's owner who made the folder.
+        // A folder in one that this program may not open wasn't made by it.
         Err(e) if e.kind() == ErrorKind::PermissionDenied => Ok(()),
         answer => answer,
     }

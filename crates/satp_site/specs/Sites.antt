@@ -1,4 +1,4 @@
--- What the calls of a real site do to its count of faults and to the ledger that it holds, if it holds one.
+-- What the calls of a real site do to the ledger that it holds, if it holds one, and why none is there.
 use Rattle.std.specs.Prelude.{◌≡◌, ◌⊎◌, ℕ, List, [], Option, Some, None, IfSome, Result, Ok, Err}
 use Rattle.satp_base.specs.declared.area.Event.{Event}
 use Rattle.satp_base.specs.declared.area.Event.TheVariants.{Acted}
@@ -11,7 +11,7 @@ use Rattle.satp_base.specs.declared.ledger.LedgerOp.{LedgerOp}
 use Rattle.satp_base.specs.declared.message.Terms.{Terms}
 use Rattle.satp_base.specs.declared.session.SessionId.{SessionId}
 use Rattle.satp_base.specs.Acts.{ActsOn, MayAdd}
-use Rattle.satp_base.specs.Calls.{Told, risen}
+use Rattle.satp_base.specs.Calls.{Told}
 use Rattle.satp_base.specs.Founding.{Founding}
 use Rattle.satp_base.specs.Money.{Book}
 use Rattle.satp_base.specs.Streams.{Rose}
@@ -19,11 +19,6 @@ use Rattle.satp_keeper.specs.Books.{ledger_payloads}
 use Rattle.satp_keeper.specs.Founding.{UnfoundedBy}
 use Rattle.satp_keeper.specs.declared.fault.KeeperFault.{KeeperFault}
 use Rattle.satp_site.specs.Keeping.{IsFounded, IsRaised, IsUnraised, KeptActs, KeptLooks, KeptState, told_book}
-
--- the count of faults goes up with each call that fails, and with no other
-abbrev pub count_after : {T E : Type 0} → ℕ → Result T E → ℕ
-count_after count (Ok done) = count
-count_after count (Err fault) = risen count 1
 
 -- A founding leaves the ledger that it founded, and none where it failed.
 abbrev pub SiteFounds : {T E : Type 0} → LedgerKind → Founding → Result T E → Option KeptState → Type 0

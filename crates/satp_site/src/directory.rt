@@ -33,15 +33,28 @@ pub trait Directory: Disk + Drop {
 }
 
 impl<R: Files<File = File> + Copy> Directory for FileDisk<R> {
-    fn beside(&mut self) -> Result<FileDisk<R>, DiskFault> {
+    ghost use Rattle.std.specs.Prelude.{IfOk};
+    ghost use Rattle.satp_devices.specs.Places.{Beside, OnArea};
+
+    fn beside(&mut self) -> Result<FileDisk<R>, DiskFault>
+        ensures cause { HasCause self.old.faults self.new.faults result }
+        ensures place { IfOk result (λ disk. Beside self.old.folder disk.folder) }
+    {
         FileDisk::beside(self)
     }
 
-    fn write_from(&mut self, area: Area, at: u64, bytes: &[u8]) -> Result<(), DiskFault> {
+    fn write_from(&mut self, area: Area, at: u64, bytes: &[u8]) -> Result<(), DiskFault>
+        ensures fits { OnOk result (at + length bytes.now ≤ 2 ^ 64 - 1) }
+        ensures cause { HasCause self.old.faults self.new.faults result }
+        ensures place { OnArea area self.old.folder self.new.folder result }
+    {
         self.write(area, at, bytes)
     }
 
-    fn cut_to(&mut self, area: Area, size: u64) -> Result<(), DiskFault> {
+    fn cut_to(&mut self, area: Area, size: u64) -> Result<(), DiskFault>
+        ensures cause { HasCause self.old.faults self.new.faults result }
+        ensures place { OnArea area self.old.folder self.new.folder result }
+    {
         self.cut(area, size)
     }
 }

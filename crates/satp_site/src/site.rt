@@ -1,6 +1,6 @@
 ghost use Rattle.std.specs.Prelude.{◌≡◌, None, option_map};
+ghost use Rattle.satp_devices.specs.Counting.{Counts};
 ghost use Rattle.satp_devices.specs.Untold.{untold_keeps};
-ghost use Rattle.satp_site.specs.Sites.{count_after};
 ghost use Rattle.satp_site.specs.Untold.{untold_ledger};
 
 use crate::directory::Directory;
@@ -9,6 +9,7 @@ use satp_base::{
     ActFault, Answer, Area, Device, Disk, DiskFault, Entry, Genesis, Ledger, LedgerKind, LedgerOp,
     SessionId, Site, SiteFault, Terms,
 };
+use satp_devices::counted;
 use std::alloc::Global;
 
 /// A disk in a directory, and a ledger that is kept in the file `ledger` of the same directory.
@@ -39,17 +40,6 @@ impl<D: Directory> RealSite<D> {
     }
 }
 
-/// Hands an answer on, and counts it where it is a fault. The count stands still at its last number.
-fn counted<T, E>(faults: &mut u64, answer: Result<T, E>) -> Result<T, E>
-    ensures same { result ≡ answer }
-    ensures count { faults.new ≡ count_after faults.old answer }
-{
-    if answer.is_err() {
-        *faults = faults.saturating_add(1);
-    }
-    answer
-}
-
 impl<D: Directory> Device for RealSite<D> {
     ghost told = { λ _. None };
 
@@ -71,7 +61,8 @@ impl<D: Directory> Disk for RealSite<D> {
     fn enter(&mut self, dir: &[u8]) -> Result<(), DiskFault>
         ensures done { OnOk result (D.told self.new.disk ≡ option_map (entered dir.now) (D.told self.old.disk)) }
         ensures failed { OnErr result (MayMiss (entered dir.now) (D.told self.old.disk) (D.told self.new.disk)) }
-        ensures count { self.new.faults ≡ count_after self.old.faults result }
+        ensures cause { HasCause self.old.faults self.new.faults result }
+        ensures counts { Counts self.old.faults self.new.faults result }
         ensures disk { HasCause (D.faults self.old.disk) (D.faults self.new.disk) result }
         ensures call { D.beside self.old.disk self.new.disk }
         ensures ledger { self.new.ledger ≡ None }
@@ -84,7 +75,8 @@ impl<D: Directory> Disk for RealSite<D> {
     fn length(&mut self, area: Area) -> Result<u64, DiskFault>
         ensures length { IfOk result (λ n. IfSome (D.told self.old.disk) (λ t. n ≡ length (seen t.trail area))) }
         ensures looked { D.told self.new.disk ≡ option_map (made 1 []) (D.told self.old.disk) }
-        ensures count { self.new.faults ≡ count_after self.old.faults result }
+        ensures cause { HasCause self.old.faults self.new.faults result }
+        ensures counts { Counts self.old.faults self.new.faults result }
         ensures disk { HasCause (D.faults self.old.disk) (D.faults self.new.disk) result }
         ensures call { D.beside self.old.disk self.new.disk }
         ensures ledger { self.new.ledger ≡ self.old.ledger }
@@ -96,7 +88,8 @@ impl<D: Directory> Disk for RealSite<D> {
         ensures bound { IfOk result (λ n. n ≤ length into.new) }
         ensures bytes { IfOk result (λ n. IfSome (D.told self.old.disk) (λ t. Reads (seen t.trail area) at into.new n)) }
         ensures looked { D.told self.new.disk ≡ option_map (made 1 []) (D.told self.old.disk) }
-        ensures count { self.new.faults ≡ count_after self.old.faults result }
+        ensures cause { HasCause self.old.faults self.new.faults result }
+        ensures counts { Counts self.old.faults self.new.faults result }
         ensures disk { HasCause (D.faults self.old.disk) (D.faults self.new.disk) result }
         ensures call { D.beside self.old.disk self.new.disk }
         ensures ledger { self.new.ledger ≡ self.old.ledger }
@@ -108,7 +101,8 @@ impl<D: Directory> Disk for RealSite<D> {
         ensures fits { OnOk result (at + length bytes.now ≤ 2 ^ 64 - 1) }
         ensures done { OnOk result (D.told self.new.disk ≡ option_map (made 1 (Wrote area at bytes.now ∷ [])) (D.told self.old.disk)) }
         ensures failed { OnErr result (Fails area (Wrote area at bytes.now) (D.told self.old.disk) (D.told self.new.disk)) }
-        ensures count { self.new.faults ≡ count_after self.old.faults result }
+        ensures cause { HasCause self.old.faults self.new.faults result }
+        ensures counts { Counts self.old.faults self.new.faults result }
         ensures disk { HasCause (D.faults self.old.disk) (D.faults self.new.disk) result }
         ensures call { D.beside self.old.disk self.new.disk }
         ensures ledger { self.new.ledger ≡ self.old.ledger }
@@ -119,7 +113,8 @@ impl<D: Directory> Disk for RealSite<D> {
     fn cut(&mut self, area: Area, size: u64) -> Result<(), DiskFault>
         ensures done { OnOk result (D.told self.new.disk ≡ option_map (made 1 (Cut area size ∷ [])) (D.told self.old.disk)) }
         ensures failed { OnErr result (Fails area (Cut area size) (D.told self.old.disk) (D.told self.new.disk)) }
-        ensures count { self.new.faults ≡ count_after self.old.faults result }
+        ensures cause { HasCause self.old.faults self.new.faults result }
+        ensures counts { Counts self.old.faults self.new.faults result }
         ensures disk { HasCause (D.faults self.old.disk) (D.faults self.new.disk) result }
         ensures call { D.beside self.old.disk self.new.disk }
         ensures ledger { self.new.ledger ≡ self.old.ledger }
@@ -130,7 +125,8 @@ impl<D: Directory> Disk for RealSite<D> {
     fn sync(&mut self, area: Area) -> Result<(), DiskFault>
         ensures done { OnOk result (D.told self.new.disk ≡ option_map (made 1 (Synced area ∷ [])) (D.told self.old.disk)) }
         ensures failed { OnErr result (Fails area (Synced area) (D.told self.old.disk) (D.told self.new.disk)) }
-        ensures count { self.new.faults ≡ count_after self.old.faults result }
+        ensures cause { HasCause self.old.faults self.new.faults result }
+        ensures counts { Counts self.old.faults self.new.faults result }
         ensures disk { HasCause (D.faults self.old.disk) (D.faults self.new.disk) result }
         ensures call { D.beside self.old.disk self.new.disk }
         ensures ledger { self.new.ledger ≡ self.old.ledger }
@@ -141,6 +137,7 @@ impl<D: Directory> Disk for RealSite<D> {
 
 impl<D: Directory> Ledger for RealSite<D> {
     ghost use Rattle.std.specs.Prelude.{List, [], Result, Err, IfOk, IfErr, IfSome};
+    ghost use Rattle.satp_base.specs.Streams.{HasCause};
     ghost use Rattle.satp_base.specs.Acts.{ActsOn, Asks, MayAdd, MayAnswer, MayRefuse};
     ghost use Rattle.satp_base.specs.declared.area.Event.{Event};
     ghost use Rattle.satp_base.specs.declared.area.Event.TheVariants.{Acted};
@@ -156,7 +153,8 @@ impl<D: Directory> Ledger for RealSite<D> {
             × IfSome None (λ b. ActsOn op session terms.now b result events None)
             × Asks (Act op session terms.now) events result None None }
         ensures acts { SiteActs op session terms.now (option_map state_of self.old.ledger) result (option_map state_of self.new.ledger) }
-        ensures count { self.new.faults ≡ count_after self.old.faults result }
+        ensures cause { HasCause self.old.faults self.new.faults result }
+        ensures counts { Counts self.old.faults self.new.faults result }
         ensures disk { self.new.disk ≡ self.old.disk }
     {
         let answer = KeptLedger::act_on(&mut self.ledger, op, session, terms);
@@ -167,7 +165,8 @@ impl<D: Directory> Ledger for RealSite<D> {
     fn look(&mut self, session: SessionId) -> Result<Entry, ActFault>
         ensures fault { IfErr result (λ fault. fault ≡ ActFault.Failed) }
         ensures looks { SiteLooks session (option_map state_of self.old.ledger) result (option_map state_of self.new.ledger) }
-        ensures count { self.new.faults ≡ count_after self.old.faults result }
+        ensures cause { HasCause self.old.faults self.new.faults result }
+        ensures counts { Counts self.old.faults self.new.faults result }
         ensures disk { self.new.disk ≡ self.old.disk }
     {
         let answer = KeptLedger::look_at(&mut self.ledger, session);
@@ -177,6 +176,7 @@ impl<D: Directory> Ledger for RealSite<D> {
 
 impl<D: Directory> Site for RealSite<D> {
     ghost use Rattle.std.specs.Prelude.{List, [], IfErr};
+    ghost use Rattle.satp_base.specs.Streams.{HasCause};
     ghost use Rattle.satp_base.specs.Acts.{Asks, FoundEvents, FoundsBook};
     ghost use Rattle.satp_base.specs.declared.area.Event.{Event};
     ghost use Rattle.satp_base.specs.declared.ledger.LedgerCall.TheVariants.{Found, Raise};
@@ -191,7 +191,8 @@ impl<D: Directory> Site for RealSite<D> {
         ensures book { FoundsBook genesis.now result None None }
         ensures fault { IfErr result (λ _. IsUnfounded kind genesis.now (D.faults self.old.disk) (D.faults self.new.disk)) }
         ensures founds { SiteFounds kind genesis.now result (option_map state_of self.new.ledger) }
-        ensures count { self.new.faults ≡ count_after self.old.faults result }
+        ensures cause { HasCause self.old.faults self.new.faults result }
+        ensures counts { Counts self.old.faults self.new.faults result }
         ensures disk { D.told self.new.disk ≡ D.told self.old.disk }
     {
         self.ledger = None;
@@ -209,7 +210,8 @@ impl<D: Directory> Site for RealSite<D> {
         ensures told { Asks Raise [] result None None }
         ensures fault { IfErr result (λ _. IsUnopened (D.faults self.old.disk) (D.faults self.new.disk)) }
         ensures raises { SiteRaises result (option_map state_of self.new.ledger) }
-        ensures count { self.new.faults ≡ count_after self.old.faults result }
+        ensures cause { HasCause self.old.faults self.new.faults result }
+        ensures counts { Counts self.old.faults self.new.faults result }
         ensures disk { D.told self.new.disk ≡ D.told self.old.disk }
     {
         self.ledger = None;

@@ -32,3 +32,4 @@ pub mod Accounts
 pub mod MemoryDisks
 pub mod LedgerRecords
 pub mod Runs
+pub mod RealSites

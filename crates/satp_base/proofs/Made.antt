@@ -7,7 +7,8 @@ use Rattle.std.proofs.Math.Seq.{take-suc}
 use Rattle.satp_base.specs.declared.area.Area.{Area}
 use Rattle.satp_base.specs.declared.area.Event.{Event}
 use Rattle.satp_base.specs.declared.area.Event.TheVariants.{Left, Synced}
-use Rattle.satp_base.specs.Calls.{Told, made, risen, IsFailure, FailsAmong}
+use Rattle.satp_base.specs.Calls.{Told, made, call_failed, risen, IsFailure, FailsAmong}
+use Rattle.satp_base.specs.Trail.{Trail, extended}
 use Rattle.satp_base.specs.Segments.{IsChangeOf, EndsInChange, IsCut, append_events, shut_events}
 use Rattle.satp_base.proofs.Cuts.{ends_behind}
 
@@ -27,10 +28,26 @@ take_more n whole e at =
     let one : n + 1 ≡ suc n = omega arith in
     rw one (take-suc whole n e (slice_get_within whole n e at) ∙ ap (λ (x : Event). take n whole ++ x ∷ []) (get_or_from_slice_get whole n e e at))
 
--- the front of a list that failed at its next call is a cut of it
+-- these events were added to what is told of the trail
+abbrev pub GrowsBy : List Event → Option Told → Option Told → Type 0
+GrowsBy es old new = option_map (λ (t : Told). t.trail) new ≡ option_map (λ (t : Told). extended t.trail es) old
+
+pub made_grows : (n : ℕ) (es : List Event) (old new : Option Told) → new ≡ option_map (made n es) old → GrowsBy es old new
+made_grows n es None new is = ap (λ (o : Option Told). option_map (λ (t : Told). t.trail) o) is
+made_grows n es (Some t) new is = ap (λ (o : Option Told). option_map (λ (t : Told). t.trail) o) is
+
+pub failed_grows : (es : List Event) (old new : Option Told) → new ≡ option_map (call_failed es) old → GrowsBy es old new
+failed_grows es None new is = ap (λ (o : Option Told). option_map (λ (t : Told). t.trail) o) is
+failed_grows es (Some t) new is = ap (λ (o : Option Told). option_map (λ (t : Told). t.trail) o) is
+
+pub grows_more : (n : ℕ) (es fs : List Event) (old new : Option Told) → GrowsBy fs (option_map (made n es) old) new → GrowsBy (es ++ fs) old new
+grows_more n es fs None new grows = grows
+grows_more n es fs (Some t) new grows = grows ∙ ap (λ (l : List Event). Some (record t.trail { events = l })) (append_assoc t.trail.events es fs)
+
+-- the prefix of a list that failed at its next call is a cut of it
 pub among_cut : (area : Area) (whole : List Event) (old new : Option Told) → ((n : ℕ) (e : Event) → slice_get whole n ≡ Some e → IsChangeOf area e) → FailsAmong area whole old new
-    → (calls : ℕ) × (events : List Event) × IsCut area whole events × (new ≡ option_map (made calls events) old)
-among_cut area whole old new changes (n, e, at, (es, failure, is)) = (n + 1, take n whole ++ es, is_cut failure, is ∙ made-made n 1 (take n whole) es old)
+    → (events : List Event) × IsCut area whole events × GrowsBy events old new
+among_cut area whole old new changes (n, e, at, (es, failure, is)) = (take n whole ++ es, is_cut failure, grows_more n (take n whole) es old new (failed_grows es _ new is))
   where
     more : take (n + 1) whole ≡ take n whole ++ e ∷ []
     more = take_more n whole e at

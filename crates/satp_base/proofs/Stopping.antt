@@ -262,13 +262,13 @@ told_all [] t area k = sym (extended_none t.trail)
 told_all (m ∷ ms) t area k =
     told_all ms (told_step area k m t) area (after_step k m) ∙ ap (λ (u : Trail). extended u (segments area (after_step k m) ms)) (told_one area k m t) ∙ extended_twice t.trail (step_events area k m) (segments area (after_step k m) ms)
 
-some_told : {x y : Told} → Some x ≡ Some y → x ≡ y
-some_told e = cc
+some_trail : {x y : Trail} → Some x ≡ Some y → x ≡ y
+some_trail e = cc
 
 fails_cut : (area : Area) (k : Kept) (m : Step) (rest : List Event) (t new : Told) → FailsIn area k m t new → (events : List Event) × IsCut area (step_events area k m ++ rest) events × (new.trail ≡ extended t.trail events)
 fails_cut area k (Stores q) rest t new fails =
     let r = among_cut area (append_events area (length (records k.payloads)) q) (Some t) (Some new) (append_changes area (length (records k.payloads)) q) fails in
-    (r.1, cut_left area _ rest r.1 r.2, ap (λ (u : Told). u.trail) (some_told r.3))
+    (r.0, cut_left area _ rest r.0 r.1, some_trail r.2)
 fails_cut area k (Operates op session terms) rest t new (events, took, is) = (events, ⊎_elim (cut_none area _ events) (cut_whole area _ rest events) took, ⊎_elim (ap (λ (u : Told). u.trail)) (ap (λ (u : Told). u.trail)) is)
 fails_cut area k Says rest t new fails = absurd fails
 

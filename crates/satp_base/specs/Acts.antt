@@ -1,7 +1,7 @@
 -- What a call on a ledger answers, and what it leaves of what the ledger tells.
 use Rattle.std.specs.Prelude.{◌≡◌, ◌≢◌, ◌⊎◌, false, if◌then◌else◌, List, [], ◌∷◌, Option, Some, None, IfSome, OnSome, Result, Ok, Err, option_map}
 use Rattle.std.specs.FinMap as map
-use Rattle.satp_base.specs.Calls.{Told, asked, made}
+use Rattle.satp_base.specs.Calls.{Told, asked, ask_failed, MayMiss}
 use Rattle.satp_base.specs.Founding.{Founding}
 use Rattle.satp_base.specs.LedgerRule.{IsOutOfOrder, LedgerRule, Operation, is_always_answered, leads, operation, result_of}
 use Rattle.satp_base.specs.Money.{Book}
@@ -45,22 +45,21 @@ MayAdd event (Ok Done) events = (events ≡ event ∷ []) ⊎ (events ≡ [])
 MayAdd event (Err act.Failed) events = (events ≡ event ∷ []) ⊎ (events ≡ [])
 MayAdd event _ events = events ≡ []
 
--- What an operation did to the book that is told, and its events. One that failed took effect or did not, and the book may be told no longer.
+-- What an operation did to the book that is told, and its events. One that failed took effect or did not.
 abbrev pub ActsOn : LedgerOp → SessionId → Terms → Book → Result Answer ActFault → List Event → Option Book → Type 0
 ActsOn op session terms b (Ok answer) events new =
     let o = operation b op session terms in
     (o.answer ≡ Some answer) × (new ≡ Some o.after) × (events ≡ operation_events o op session terms)
 ActsOn op session terms b (Err act.Failed) events new =
     let o = operation b op session terms in
-    ((events ≡ []) × ((new ≡ None) ⊎ (new ≡ Some b)))
-    ⊎ ((events ≡ operation_events o op session terms) × ((new ≡ None) ⊎ (new ≡ Some o.after)))
+    ((events ≡ []) × (new ≡ Some b)) ⊎ ((events ≡ operation_events o op session terms) × (new ≡ Some o.after))
 ActsOn op session terms b (Err (act.OutOfOrder entry)) events new =
     IsOutOfOrder b op session entry × (new ≡ Some b) × (events ≡ [])
 
 -- A call on the ledger is told by name, or it is only counted where it failed and no memory was found to note it.
 abbrev pub Asks : {T E : Type 0} → LedgerCall → List Event → Result T E → Option Told → Option Told → Type 0
 Asks call events (Ok done) old new = new ≡ option_map (asked call events) old
-Asks call events (Err fault) old new = (new ≡ option_map (asked call events) old) ⊎ (new ≡ option_map (made 1 events) old)
+Asks call events (Err fault) old new = MayMiss (ask_failed call events) events old new
 
 -- the book of a ledger that was set up anew
 abbrev pub founded : Founding → Book

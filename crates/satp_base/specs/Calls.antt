@@ -1,37 +1,60 @@
 -- What a device tells, and what a call adds to it.
-use Rattle.std.specs.Prelude.{◌≡◌, ◌⊎◌, ℕ, ◌+◌, ◌-◌, ◌^◌, min, max, List, [], ◌∷◌, ◌++◌, length, take, drop, slice_get, Option, Some, option_map}
+use Rattle.std.specs.Prelude.{◌≡◌, ◌⊎◌, ℕ, ◌+◌, ◌-◌, ◌^◌, min, max, Bool, true, false, List, [], ◌∷◌, ◌++◌, length, take, drop, slice_get, Option, Some, option_map}
 use Rattle.satp_base.specs.declared.area.Area.{Area}
 use Rattle.satp_base.specs.declared.area.Event.{Event}
 use Rattle.satp_base.specs.declared.area.Event.TheVariants.{Left}
 use Rattle.satp_base.specs.declared.ledger.LedgerCall.{LedgerCall}
 use Rattle.satp_base.specs.Trail.{Trail, extended}
 
--- the trail, the directories that were asked for, the number of all calls, and the calls on the ledger
+-- a directory that was asked for: how many calls came before, and whether it was entered
+pub record Entering : Type 0 where
+  pub dir : List ℕ
+  pub before : ℕ
+  pub succeeded : Bool
+
+-- a call on the ledger: how many calls came before, and whether it succeeded
+pub record Ask : Type 0 where
+  pub call : LedgerCall
+  pub before : ℕ
+  pub succeeded : Bool
+
+-- the trail, the directories that were asked for, the number of all calls, that of the last one that failed, and the calls on the ledger
 pub record Told : Type 0 where
   pub trail : Trail
-  pub dirs : List (List ℕ)
+  pub dirs : List Entering
   pub calls : ℕ
-  pub asks : List LedgerCall
+  pub last_failed : Option ℕ
+  pub asks : List Ask
 
 -- a count after so many more, which stands still at the end of its type
 abbrev pub risen : ℕ → ℕ → ℕ
 risen count more = max count (min (count + more) (2 ^ 64 - 1))
 
--- after so many further calls, which made these events
+-- after so many further calls that succeeded, which made these events
 abbrev pub made : ℕ → List Event → Told → Told
 made calls events t = record t { trail = extended t.trail events; calls = risen t.calls calls }
 
--- after a call on the ledger, which made these events
-abbrev pub asked : LedgerCall → List Event → Told → Told
-asked call events t = record (made 1 events t) { asks = t.asks ++ call ∷ [] }
+-- after one further call that failed, which made these events
+abbrev pub call_failed : List Event → Told → Told
+call_failed events t = record t { trail = extended t.trail events; calls = risen t.calls 1; last_failed = Some (risen t.calls 1) }
 
--- after a directory was asked for
+-- after a call on the ledger that succeeded, or failed, which made these events
+abbrev pub asked : LedgerCall → List Event → Told → Told
+asked call events t = record (made 1 events t) { asks = t.asks ++ record { call = call; before = t.calls; succeeded = true } ∷ [] }
+
+abbrev pub ask_failed : LedgerCall → List Event → Told → Told
+ask_failed call events t = record (call_failed events t) { asks = t.asks ++ record { call = call; before = t.calls; succeeded = false } ∷ [] }
+
+-- after a directory was entered, or was asked for in vain
 abbrev pub entered : List ℕ → Told → Told
-entered dir t = record (made 1 [] t) { dirs = t.dirs ++ dir ∷ [] }
+entered dir t = record (made 1 [] t) { dirs = t.dirs ++ record { dir = dir; before = t.calls; succeeded = true } ∷ [] }
+
+abbrev pub enter_failed : List ℕ → Told → Told
+enter_failed dir t = record (call_failed [] t) { dirs = t.dirs ++ record { dir = dir; before = t.calls; succeeded = false } ∷ [] }
 
 -- A failed call is told by name, or it is only counted where no memory was found to note it.
-abbrev pub MayMiss : (Told → Told) → Option Told → Option Told → Type 0
-MayMiss call old new = (new ≡ option_map call old) ⊎ (new ≡ option_map (made 1 []) old)
+abbrev pub MayMiss : (Told → Told) → List Event → Option Told → Option Told → Type 0
+MayMiss call events old new = (new ≡ option_map call old) ⊎ (new ≡ option_map (call_failed events) old)
 
 -- the events of a failed write, cut or sync: its event or none, and where the area then reads otherwise all that it reads
 abbrev pub IsFailure : Area → Event → List Event → Type 0
@@ -39,7 +62,7 @@ IsFailure area event events = (events ≡ []) ⊎ (events ≡ event ∷ []) ⊎ 
 
 -- what a failed write, cut or sync does to what is told
 abbrev pub Fails : Area → Event → Option Told → Option Told → Type 0
-Fails area event old new = (events : List Event) × IsFailure area event events × (new ≡ option_map (made 1 events) old)
+Fails area event old new = (events : List Event) × IsFailure area event events × (new ≡ option_map (call_failed events) old)
 
 -- Of the calls that make these events, one each, the first n succeeded and the next one failed.
 abbrev pub FailsAmong : Area → List Event → Option Told → Option Told → Type 0

@@ -8,7 +8,7 @@ use Rattle.satp_base.specs.declared.message.Terms.{Terms}
 use Rattle.satp_base.specs.declared.session.SessionId.{SessionId}
 use Rattle.satp_base.specs.Acts.{operation_events}
 use Rattle.satp_base.specs.Trail.{Trail, IsImage, KeepsModel, extended}
-use Rattle.satp_base.specs.Calls.{Told, made, asked, FailsAmong}
+use Rattle.satp_base.specs.Calls.{Told, made, asked, call_failed, ask_failed, FailsAmong}
 use Rattle.satp_base.specs.Format.{records, IsPayload, Stands}
 use Rattle.satp_base.specs.LedgerAt.{ledger_at}
 use Rattle.satp_base.specs.LedgerRule.{operation}
@@ -62,7 +62,7 @@ abbrev pub FailsIn : Area → Kept → Step → Told → Told → Type 0
 FailsIn area k (Stores q) t new = FailsAmong area (append_events area (length (records k.payloads)) q) (Some t) (Some new)
 FailsIn area k (Operates op session terms) t new =
     let whole = operation_events (operation k.ledger op session terms) op session terms in (events : List Event) × ((events ≡ []) ⊎ (events ≡ whole))
-    × ((new ≡ asked (Act op session terms) events t) ⊎ (new ≡ made 1 events t))
+    × ((new ≡ ask_failed (Act op session terms) events t) ⊎ (new ≡ call_failed events t))
 FailsIn area k Says t new = ⊥
 
 -- some of the steps were made, and the next one failed

@@ -2,7 +2,7 @@ ghost use Rattle.std.specs.Prelude.{◌≡◌, ◌≤◌, ◌+◌, ◌-◌, ◌^
 ghost use Rattle.std.specs.Option.{ForSome};
 ghost use Rattle.satp_base.specs.Streams.{HasCause};
 ghost use Rattle.satp_base.specs.Trail.{seen, KeepsModel};
-ghost use Rattle.satp_base.specs.Calls.{Told, made, entered, MayMiss, Fails, Reads};
+ghost use Rattle.satp_base.specs.Calls.{Told, made, call_failed, entered, enter_failed, MayMiss, Fails, Reads};
 ghost use Rattle.satp_base.specs.Money.{Book};
 ghost use Rattle.satp_base.specs.declared.area.Event.TheVariants.{Wrote, Cut, Synced};
 
@@ -23,11 +23,17 @@ pub trait Device {
     /// How often it has failed. The number never falls.
     ghost faults: { Self → ℕ };
 
-    /// What a call leaves of all that the device tells beside its trail, as a device with several trails does.
+    /// How all else that a device knows goes on from one moment to a later one: as with a device that has several trails, or one that is to stop.
     ghost beside: { Self → Self → Type 0 } = { λ _ _. Unit {0} };
 
     /// What it tells keeps the disk model.
     ghost keeps_model: { (device : Self) (t : Told) → told device ≡ Some t → KeepsModel t.trail };
+
+    /// It goes on so where nothing is called.
+    ghost beside_same: { (device : Self) → beside device device };
+
+    /// It goes on so over two calls where it does over each.
+    ghost beside_then: { (a b c : Self) → beside a b → beside b c → beside a c };
 }
 
 /// Areas of bytes in a directory.
@@ -39,7 +45,7 @@ pub trait Disk: Device {
     /// Goes to a directory.
     fn enter(&mut self, dir: &[u8]) -> Result<(), DiskFault>
         ensures ok { OnOk result (Self.told self.new ≡ option_map (entered dir.now) (Self.told self.old)) }
-        ensures err { OnErr result (MayMiss (entered dir.now) (Self.told self.old) (Self.told self.new)) }
+        ensures err { OnErr result (MayMiss (enter_failed dir.now) [] (Self.told self.old) (Self.told self.new)) }
         ensures ledger { Self.book self.new ≡ Self.book self.old }
         ensures beside { Self.beside self.old self.new }
         ensures cause { HasCause (Self.faults self.old) (Self.faults self.new) result };
@@ -47,7 +53,8 @@ pub trait Disk: Device {
     /// How many bytes an area has.
     fn length(&mut self, area: Area) -> Result<u64, DiskFault>
         ensures length { IfOk result (λ n. IfSome (Self.told self.old) (λ t. n ≡ length (seen t.trail area))) }
-        ensures told { Self.told self.new ≡ option_map (made 1 []) (Self.told self.old) }
+        ensures ok { OnOk result (Self.told self.new ≡ option_map (made 1 []) (Self.told self.old)) }
+        ensures err { OnErr result (Self.told self.new ≡ option_map (call_failed []) (Self.told self.old)) }
         ensures ledger { Self.book self.new ≡ Self.book self.old }
         ensures beside { Self.beside self.old self.new }
         ensures cause { HasCause (Self.faults self.old) (Self.faults self.new) result };
@@ -56,7 +63,8 @@ pub trait Disk: Device {
     fn read(&mut self, area: Area, at: u64, into: &mut [u8]) -> Result<usize, DiskFault>
         ensures bound { IfOk result (λ n. n ≤ length into.new) }
         ensures bytes { IfOk result (λ n. IfSome (Self.told self.old) (λ t. Reads (seen t.trail area) at into.new n)) }
-        ensures told { Self.told self.new ≡ option_map (made 1 []) (Self.told self.old) }
+        ensures ok { OnOk result (Self.told self.new ≡ option_map (made 1 []) (Self.told self.old)) }
+        ensures err { OnErr result (Self.told self.new ≡ option_map (call_failed []) (Self.told self.old)) }
         ensures ledger { Self.book self.new ≡ Self.book self.old }
         ensures beside { Self.beside self.old self.new }
         ensures cause { HasCause (Self.faults self.old) (Self.faults self.new) result };

@@ -33,14 +33,15 @@ pub trait Wire {
     /// Whether a connection is open, which every wire says.
     ghost is_open: { Self → Bool };
 
-    /// The connection that is open is the last one that it tells.
-    ghost one_open: { (wire : Self) (t : Traffic) → told wire ≡ Some t → is_open wire ≡ true → t.conversations ≢ [] };
+    /// How all else that a wire knows goes on from one moment to a later one: as with one whose peer stands behind it.
+    ghost beside: { Self → Self → Type 0 } = { λ _ _. Unit {0} };
 
     /// Begins to listen at an address.
     fn listen(&mut self, at: &Address) -> Result<(), WireFault>
         ensures ok { OnOk result ((listens self.new ≡ true) × (told self.new ≡ option_map (called (Listen at.now)) (told self.old))) }
         ensures err { OnErr result ((listens self.new ≡ listens self.old) × MayMiss (Listen at.now) (told self.old) (told self.new)) }
         ensures kept { is_open self.new ≡ is_open self.old }
+        ensures beside { beside self.old self.new }
         ensures cause { HasCause (faults self.old) (faults self.new) result };
 
     /// Waits for a peer that connects.
@@ -50,6 +51,7 @@ pub trait Wire {
         ensures ok { OnOk result ((is_open self.new ≡ true) × (told self.new ≡ option_map (called Accept) (told self.old))) }
         ensures err { OnErr result ((is_open self.new ≡ false) × MayMiss Accept (told self.old) (told self.new)) }
         ensures kept { listens self.new ≡ listens self.old }
+        ensures beside { beside self.old self.new }
         ensures cause { HasCause (faults self.old) (faults self.new) result };
 
     /// Connects to a peer.
@@ -58,6 +60,7 @@ pub trait Wire {
         ensures ok { OnOk result ((is_open self.new ≡ true) × (told self.new ≡ option_map (called (Connect at.now)) (told self.old))) }
         ensures err { OnErr result ((is_open self.new ≡ false) × MayMiss (Connect at.now) (told self.old) (told self.new)) }
         ensures kept { listens self.new ≡ listens self.old }
+        ensures beside { beside self.old self.new }
         ensures cause { HasCause (faults self.old) (faults self.new) result };
 
     /// Fills the front of `into` with bytes that the peer said, and answers how many; 0 with room left is the end.
@@ -67,6 +70,7 @@ pub trait Wire {
         ensures ok { IfOk result (λ n. told self.new ≡ option_map (hears (take n into.new) ((n == 0) && nat_lt 0 (length into.new))) (told self.old)) }
         ensures err { OnErr result (told self.new ≡ told self.old) }
         ensures kept { (listens self.new ≡ listens self.old) × (is_open self.new ≡ true) }
+        ensures beside { beside self.old self.new }
         ensures cause { HasCause (faults self.old) (faults self.new) result };
 
     /// Says the front of a piece, at least one byte where there is one, and answers how many.
@@ -77,6 +81,7 @@ pub trait Wire {
         ensures ok { IfOk result (λ n. told self.new ≡ option_map (says (take n piece.now)) (told self.old)) }
         ensures err { OnErr result (told self.new ≡ told self.old) }
         ensures kept { (listens self.new ≡ listens self.old) × (is_open self.new ≡ true) }
+        ensures beside { beside self.old self.new }
         ensures cause { HasCause (faults self.old) (faults self.new) result };
 
     /// Ends the connection, and leaves what is told.
@@ -84,5 +89,15 @@ pub trait Wire {
         ensures told { told self.new ≡ told self.old }
         ensures open { is_open self.new ≡ false }
         ensures listens { listens self.new ≡ listens self.old }
+        ensures beside { beside self.old self.new }
         ensures faults { faults self.new ≡ faults self.old };
+
+    /// The connection that is open is the last one that it tells.
+    ghost one_open: { (wire : Self) (t : Traffic) → told wire ≡ Some t → is_open wire ≡ true → t.conversations ≢ [] };
+
+    /// It goes on so where nothing is called.
+    ghost beside_same: { (wire : Self) → beside wire wire };
+
+    /// It goes on so over two calls where it does over each.
+    ghost beside_then: { (a b c : Self) → beside a b → beside b c → beside a c };
 }

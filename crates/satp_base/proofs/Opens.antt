@@ -28,7 +28,7 @@ sync_states area s (suc n) c here leaves = subst (λ (l : List ℕ). Leaves s l)
     settled_leaves : Leaves (settled s.now) c
     settled_leaves = subst (λ (st : Standing). Leaves st c) folded leaves
 
-pub open_begins : (t : Trail) (area : Area) (events : List Event) → IsCut area (Synced area ∷ []) events → KeepsModel (extended t events) → (image : List ℕ) → IsImage (extended t events) area image → IsImage t area image
+pub open_begins : (t : Trail) (area : Area) (events : List Event) → IsCut (Synced area ∷ []) events → KeepsModel (extended t events) → (image : List ℕ) → IsImage (extended t events) area image → IsImage t area image
 open_begins t area events cut keeps image is =
     let split = keeps_split area (settled (t.start area)) t.events events (keeps area) in
     let at = cut_leaves area (Synced area ∷ []) (standing t area) events cut split.1 image (subst (λ (st : Standing). Leaves st image) (fold-append (next area) (settled (t.start area)) t.events events) is) in
@@ -186,7 +186,7 @@ module _ (area : Area) (payloads : List (List ℕ)) (s : Standing) where
       let r = states payloads gate behind s ends area (wants_gate s.now (length (records payloads))) n c leaves in
       in_mend payloads gate behind s shut ends long mendable (wants_gate s.now (length (records payloads))) r.0 c (wanted payloads gate behind s ends) r.1 r.2
 
-  mend_cut : Stands s.now payloads → IsMendable s.now → (events : List Event) → IsCut area events_of (Synced area ∷ events) → KeepsFrom area s (Synced area ∷ events) → (c : List ℕ) → Leaves (fold (next area) s (Synced area ∷ events)) c → IsInMend s.now payloads c
+  mend_cut : Stands s.now payloads → IsMendable s.now → (events : List Event) → IsCut events_of (Synced area ∷ events) → KeepsFrom area s (Synced area ∷ events) → (c : List ℕ) → Leaves (fold (next area) s (Synced area ∷ events)) c → IsInMend s.now payloads c
   mend_cut stands mendable events (zero, inl is) keeps c leaves = cc
   mend_cut stands mendable events (zero, inr (bytes, change, is)) keeps c leaves = absurd change
   mend_cut stands mendable events (suc n, cut) keeps c leaves = mend_at stands mendable n c (cut_leaves area events_of s (Synced area ∷ events) (suc n, cut) keeps c leaves)
@@ -198,7 +198,7 @@ module _ (area : Area) (payloads : List (List ℕ)) (s : Standing) where
       last_state payloads gate behind s ends area (wants_gate s.now (length (records payloads))) c (not_wanted payloads gate behind s ends) leaves
 
 pub open_leaves : (t : Trail) (area : Area) (payloads : List (List ℕ)) (events : List Event) → Stands (seen t area) payloads → IsMendable (seen t area)
-    → IsCut area (open_events area (seen t area) (length (records payloads))) (Synced area ∷ events) → KeepsModel (extended t (Synced area ∷ events))
+    → IsCut (open_events area (seen t area) (length (records payloads))) (Synced area ∷ events) → KeepsModel (extended t (Synced area ∷ events))
     → (image : List ℕ) → IsImage (extended t (Synced area ∷ events)) area image → IsInMend (seen t area) payloads image
 open_leaves t area payloads events stands mendable cut keeps image is =
     mend_cut area payloads (standing t area) stands mendable events cut (keeps_split area (settled (t.start area)) t.events (Synced area ∷ events) (keeps area)).1 image

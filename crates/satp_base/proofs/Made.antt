@@ -7,7 +7,7 @@ use Rattle.std.proofs.Math.Seq.{take-append-add}
 use Rattle.satp_base.specs.declared.area.Event.{Event}
 use Rattle.satp_base.specs.declared.area.Event.TheVariants.{Left}
 use Rattle.satp_base.specs.Calls.{Told, made, call_failed, risen, calls_of, events_in, IsFailure, Makes, FailsAt, FailsAmong}
-use Rattle.satp_base.specs.Trail.{Trail, extended}
+use Rattle.satp_base.specs.Trail.{extended}
 use Rattle.satp_base.specs.Segments.{IsCut, last_area}
 use Rattle.satp_base.proofs.Cuts.{last_of}
 
@@ -52,7 +52,7 @@ module _ {X : Type 0} where
   get_front (y ∷ xs) ys (suc n) x at = get_front xs ys n x at
 
 -- the events of some calls, and of the next one
-pub events_more : (n : ℕ) (calls : List (Option Event)) (e : Event) → slice_get calls n ≡ Some (Some e) → events_in (take (n + 1) calls) ≡ events_in (take n calls) ++ e ∷ []
+pub events_more : (n : ℕ) (calls : List (Option Event)) (e : Event) → slice_get calls n ≡ Some (Some e) → events_in (take (suc n) calls) ≡ events_in (take n calls) ++ e ∷ []
 events_more n [] e at = absurd cc
 events_more zero (c ∷ calls) e at = rw (some_call at) refl
 events_more (suc n) (None ∷ calls) e at = events_more n calls e at
@@ -73,14 +73,14 @@ module _ (calls : List (Option Event)) (n : ℕ) where
   failure_cut : (e : Event) (es : List Event) → slice_get calls n ≡ Some (Some e) → IsFailure e es → IsCut (events_in calls) (before ++ es)
   failure_cut e es at failure = by failure
     where
-      whole : before ++ e ∷ [] ≡ take (events_prefix (n + 1) calls).0 (events_in calls)
-      whole = sym (events_more n calls e at) ∙ (events_prefix (n + 1) calls).1
+      whole : before ++ e ∷ [] ≡ take (events_prefix (suc n) calls).0 (events_in calls)
+      whole = sym (events_more n calls e at) ∙ (events_prefix (suc n) calls).1
 
       by : IsFailure e es → IsCut (events_in calls) (before ++ es)
       by (inl none) = let r = events_prefix n calls in (r.0, inl (ap (λ (l : List Event). before ++ l) none ∙ append-nil before ∙ r.1))
-      by (inr (inl one)) = ((events_prefix (n + 1) calls).0, inl (ap (λ (l : List Event). before ++ l) one ∙ whole))
+      by (inr (inl one)) = ((events_prefix (suc n) calls).0, inl (ap (λ (l : List Event). before ++ l) one ∙ whole))
       by (inr (inr (area, bytes, of, two))) = (
-        (events_prefix (n + 1) calls).0,
+        (events_prefix (suc n) calls).0,
         inr (
           area,
           bytes,

@@ -197,7 +197,7 @@ module _ (area : Area) (payloads : List (List ℕ)) (s : Standing) where
   short_at (inr (long, closed)) le n c leaves = absurd (omega (arith, long, le))
 
   -- what stands after the gate stays, and a gate that is 0 stays
-  rest_at : IsAtRest payloads s.now → (n : ℕ) (c : List ℕ) → LeavesAt (suc n) c → IsAtRest payloads c
+  pub rest_at : IsAtRest payloads s.now → (n : ℕ) (c : List ℕ) → LeavesAt (suc n) c → IsAtRest payloads c
   rest_at (behind, ends) n c leaves =
       let r = states payloads 0 behind s ends area wants n c leaves in
       (behind, subst (λ (g : ℕ). EndsAt payloads g behind c) (⊎_elim (λ on. absurd (wanted payloads 0 behind s ends on refl)) (λ same. same) r.2) r.1)

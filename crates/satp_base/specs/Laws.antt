@@ -147,6 +147,12 @@ ReopenEnds =
     (t : Trail) (area : Area) (payloads list : List (List ℕ)) (q : List ℕ) → IsPayload q → AllInAppend t area payloads q → KeepsModel t → Stands (seen t area) list
     → IsEither payloads q list × RestsAt (extended t (open_events area (seen t area) (length (records list)))) area list
 
+-- where each image is a list at rest, at each cut of an opening each is still that list at rest
+abbrev pub ReopenRests : Type 0
+ReopenRests =
+    (t : Trail) (area : Area) (payloads list : List (List ℕ)) (events : List Event) → RestsAt t area payloads → Stands (seen t area) list
+    → IsCut (open_events area (seen t area) (length (records list))) events → KeepsModel (extended t events) → (list ≡ payloads) × RestsAt (extended t events) area payloads
+
 -- A trail that begins with what a stop left of another has no image that this one hadn't.
 abbrev pub RestartLeaves : Type 0
 RestartLeaves =

@@ -1,5 +1,5 @@
 // Laws over definitions alone.
-ghost use Rattle.satp_base.specs.Laws.{OneReading, ReadsAnImage, InAppendReads, AppendLeaves, AppendDecides, AppendEnds, CutPrefixes, OpenBegins, OpenLeaves, OpenKeeps, OpenStaysShort, OpenEnds, ReopenReads, ReopenLeaves, ReopenEnds, RestartLeaves};
+ghost use Rattle.satp_base.specs.Laws.{OneReading, ReadsAnImage, InAppendReads, AppendLeaves, AppendDecides, AppendEnds, CutPrefixes, OpenBegins, OpenLeaves, OpenKeeps, OpenStaysShort, OpenEnds, ReopenReads, ReopenLeaves, ReopenEnds, ReopenRests, RestartLeaves};
 
 /// What the bytes of a journal stand for.
 pub fn law_readings()
@@ -30,5 +30,6 @@ pub fn law_reopen()
     ensures read { ReopenReads }
     ensures each { ReopenLeaves }
     ensures end { ReopenEnds }
+    ensures rest { ReopenRests }
     ensures restart { RestartLeaves }
 {}

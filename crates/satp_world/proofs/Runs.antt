@@ -4,7 +4,7 @@ use Rattle.std.specs.Prelude.{slice_get}
 use Rattle.std.proofs.lemmas.Bool.{and_from}
 use Rattle.std.proofs.lemmas.List.{length_push}
 use Rattle.satp_base.specs.Canonical.{part_kind}
-use Rattle.satp_base.specs.Chains.{head_of, last_link, next_text, role_at}
+use Rattle.satp_base.specs.Chains.{head_of, last_link, message_at, next_text, role_at}
 use Rattle.satp_base.specs.Forms.{IsMessage, IsPart, are_entries}
 use Rattle.satp_base.specs.Founding.{Founding}
 use Rattle.satp_base.specs.LedgerRule.{LedgerRule}

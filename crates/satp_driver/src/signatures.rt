@@ -1,8 +1,7 @@
+use crate::base64url::{decoded, encoded, keyed};
 use crate::fault::DriverFault;
-use base64::DecodeAllocError;
-use base64::engine::general_purpose::URL_SAFE_NO_PAD;
 use satp_base::Text;
-use satp_jws::{JwsFault, Key, sign, verify};
+use satp_jws::{JwsFault, sign, verify};
 use std::alloc::Global;
 
 /// The JWS for a line `<key> <payload>`.
@@ -18,30 +17,10 @@ pub fn verify_line(alloc: Global, line: &str) -> Result<Text, DriverFault> {
     match verify(alloc, &key, jws.as_bytes()) {
         Ok(verified) => {
             let mut answer = Text::copy(alloc, b"ok ")?;
-            let payload = URL_SAFE_NO_PAD.encode(alloc, verified.payload.bytes())?;
-            answer.append(payload.as_bytes())?;
+            answer.append(encoded(alloc, verified.payload.bytes())?.bytes())?;
             Ok(answer)
         }
         Err(JwsFault::Memory) => Err(DriverFault::Memory),
         Err(_) => Ok(Text::copy(alloc, b"refused")?),
-    }
-}
-
-/// The key that a line begins with, and what stands behind the space.
-fn keyed(alloc: Global, line: &str) -> Result<(Key, &str), DriverFault> {
-    let (key, rest) = line.split_once(' ').ok_or(DriverFault::Line)?;
-    let bytes = decoded(alloc, key)?;
-    match Key::new(bytes.bytes()) {
-        Ok(key) => Ok((key, rest)),
-        Err(_) => Err(DriverFault::Line),
-    }
-}
-
-/// The bytes whose base64url this is.
-fn decoded(alloc: Global, text: &str) -> Result<Text, DriverFault> {
-    match URL_SAFE_NO_PAD.decode(alloc, text.as_bytes()) {
-        Ok(bytes) => Ok(Text::copy(alloc, bytes.as_slice())?),
-        Err(DecodeAllocError::OutOfMemory) => Err(DriverFault::Memory),
-        Err(DecodeAllocError::DecodeError(_)) => Err(DriverFault::Line),
     }
 }

@@ -1,4 +1,4 @@
-//! Files of the system that fail where a test wants it.
+//! Files of the system that fail where a line wants it.
 
 use std::alloc::Allocator;
 use std::cell::Cell;
@@ -20,35 +20,38 @@ pub enum Opened {
     WriteOnly,
 }
 
-/// The files of the system, where one path is opened otherwise than asked.
+/// The path that is opened otherwise than asked.
 #[derive(Clone, Copy)]
-pub struct Hindered<'a, R> {
-    files: R,
-    path: &'a str,
-    opened: &'a Cell<Opened>,
+pub struct Hindrance<'p> {
+    pub path: &'p str,
+    pub opened: Opened,
 }
 
-impl<'a, R: Files<File = File>> Hindered<'a, R> {
-    pub fn new(files: R, path: &'a str, opened: &'a Cell<Opened>) -> Hindered<'a, R> {
-        Hindered {
-            files,
-            path,
-            opened,
-        }
+/// The files of the system, where one path is opened otherwise than asked.
+#[derive(Clone, Copy)]
+pub struct Hindered<'a, 'p, R> {
+    files: R,
+    hindrance: &'a Cell<Hindrance<'p>>,
+}
+
+impl<'a, 'p, R: Files<File = File>> Hindered<'a, 'p, R> {
+    pub fn new(files: R, hindrance: &'a Cell<Hindrance<'p>>) -> Hindered<'a, 'p, R> {
+        Hindered { files, hindrance }
     }
 }
 
-impl<'a, R: Files<File = File>> Files for Hindered<'a, R> {
+impl<'a, 'p, R: Files<File = File>> Files for Hindered<'a, 'p, R> {
     type File = File;
 
     type Dir = R::Dir;
 
     fn open_file(&self, how: &OpenOptions, path: &str) -> io::Result<File> {
-        if path != self.path {
+        let hindrance = self.hindrance.get();
+        if path != hindrance.path {
             return self.files.open_file(how, path);
         }
         let mut options = OpenOptions::new();
-        match self.opened.get() {
+        match hindrance.opened {
             Opened::AsAsked => self.files.open_file(how, path),
             Opened::Refused => Err(ErrorKind::PermissionDenied.into()),
             Opened::Unsynced => {

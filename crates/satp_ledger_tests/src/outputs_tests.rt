@@ -1,5 +1,7 @@
 use crate::fixture::{Given, make_given};
-use satp_base::{Amount, Answer, CoreFault, Genesis, LedgerCore, LedgerOp, Name, SessionId, Terms};
+use satp_base::{
+    Amount, Answer, CoreFault, Entry, Genesis, LedgerCore, LedgerOp, Name, SessionId, Terms,
+};
 use satp_outputs::{Output, Outputs};
 use std::alloc::Global;
 
@@ -123,18 +125,36 @@ fn news_of(alloc: Global, given: &Given) -> Option<([Step; 4], u64)> {
     Some(make_news(&mut ledger, given, &all, &coming))
 }
 
-/// A lock of more than ann has leaves the outputs.
-fn refusal_of(alloc: Global, given: &Given) -> Option<Step> {
-    let terms = given.terms(given.gold, 101)?;
-    let mut ledger = begun(alloc, b"asset gold 500\nhold gold ann 100\n")?;
-    Some(step(&mut ledger, LedgerOp::Lock, given.one, &terms))
+/// A lock of more than ann has, a mint past the cap, and a mint and a burn of an asset that isn't there leave the outputs.
+fn refuse(ledger: &mut Outputs, given: &Given, terms: [Terms; 3]) -> [Step; 4] {
+    let [much, more, iron] = terms;
+    [
+        step(ledger, LedgerOp::Lock, given.one, &much),
+        step(ledger, LedgerOp::Mint, given.one, &more),
+        step(ledger, LedgerOp::Mint, given.one, &iron),
+        step(ledger, LedgerOp::Burn, given.one, &iron),
+    ]
 }
 
-fn refusal_wanted(given: &Given) -> Step {
-    (
-        Ok(Answer::NoFunds { free: 100 }),
-        [gold(given, given.ann, 100), None, None, None, None],
-    )
+fn refusals_of(alloc: Global, given: &Given) -> Option<[Step; 4]> {
+    let terms = [
+        given.terms(given.gold, 101)?,
+        given.terms(given.gold, 401)?,
+        given.terms(given.iron, 1)?,
+    ];
+    let mut ledger = begun(alloc, b"asset gold 500\nhold gold ann 100\n")?;
+    Some(refuse(&mut ledger, given, terms))
+}
+
+fn refusals_wanted(given: &Given) -> [Step; 4] {
+    let left = [gold(given, given.ann, 100), None, None, None, None];
+    let entry = Entry::Absent;
+    [
+        (Ok(Answer::NoFunds { free: 100 }), left),
+        (Ok(Answer::Capped { total: 100 }), left),
+        (Ok(Answer::UnknownAsset), left),
+        (Err(CoreFault::OutOfOrder { entry }), left),
+    ]
 }
 
 #[test]
@@ -144,6 +164,6 @@ fn operations_take_the_first_outputs_and_make_new_ones(rt: HostRuntime) {
     if let Some(given) = given {
         assert!(rt; change_of(rt.alloc(), &given) == Some(change_wanted(&given)));
         assert!(rt; news_of(rt.alloc(), &given) == Some(news_wanted(&given)));
-        assert!(rt; refusal_of(rt.alloc(), &given) == Some(refusal_wanted(&given)));
+        assert!(rt; refusals_of(rt.alloc(), &given) == Some(refusals_wanted(&given)));
     }
 }

@@ -11,8 +11,6 @@ mod sink;
 mod site;
 mod source;
 mod stop;
-#[cfg(test)]
-mod tests;
 
 pub use disk::MemDisk;
 pub use sink::MemSink;

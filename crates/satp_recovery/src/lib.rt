@@ -6,7 +6,5 @@
 #![tactic(auto)]
 
 mod choice;
-#[cfg(test)]
-mod tests;
 
 pub use choice::{RecoveryFault, Step, agree, answer, take};

@@ -6,5 +6,7 @@
 #![tactic(auto)]
 
 mod choice;
+mod laws;
 
 pub use choice::{RecoveryFault, Step, agree, answer, take};
+pub use laws::law_rounds;

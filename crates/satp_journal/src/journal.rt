@@ -3,7 +3,7 @@ ghost use Rattle.std.specs.Option.{option_copied};
 ghost use Rattle.satp_base.specs.Format.{records};
 ghost use Rattle.satp_base.specs.Streams.{Rose};
 ghost use Rattle.satp_journal.specs.State.{Fits};
-ghost use Rattle.satp_journal.specs.Appending.{AppendAnswers, AppendStops, RestsStill};
+ghost use Rattle.satp_journal.specs.Appending.{AppendAnswers, AppendStops, AppendRests};
 ghost use Rattle.satp_journal.specs.Opening.{OpenAnswers, OpenStops, Rests};
 
 use crate::fault::JournalFault;
@@ -106,7 +106,7 @@ impl Journal {
         ensures records { OnOk result (self.old.spare_records ≤ self.new.spare_records + 1) }
         ensures bytes { OnOk result (self.old.spare_bytes ≤ self.new.spare_bytes + length payload.now) }
         ensures stops { AppendStops payload.now self.old.held (D.told disk.old) (D.told disk.new) }
-        ensures rests { OnOk result (RestsStill self.old.held.area self.old.held.payloads self.new.held.payloads (D.told disk.old) (D.told disk.new)) }
+        ensures rests { OnOk result (AppendRests payload.now self.old.held (D.told disk.old) (D.told disk.new)) }
         ensures fits { self.new.held.broken ≡ false → Fits self.new.held (D.told disk.new) }
         ensures ledger { D.book disk.new ≡ D.book disk.old }
         ensures later { D.faults disk.old ≤ D.faults disk.new }

@@ -109,3 +109,10 @@ pub fn write_response(alloc: Global, code: u16, body: &[u8], close: bool) -> Res
     text.append(body)?;
     Ok(text)
 }
+
+/// The interim answer (RFC 9110, section 15.2.1), which a client that expects it waits for before it sends the body.
+pub fn interim_text() -> &'static [u8]
+    ensures { result.now ≡ interim_text }
+{
+    b"HTTP/1.1 100 Continue\r\n\r\n"
+}

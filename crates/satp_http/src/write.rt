@@ -2,7 +2,7 @@
 ghost use Rattle.std.specs.Prelude.{◌≡◌, ◌++◌, [], IsTrue, IfOk, OnOk};
 ghost use Rattle.httparse.specs.Ascii.{crlf_bytes};
 ghost use Rattle.satp_base.specs.Values.{address_text};
-ghost use Rattle.satp_http.specs.Written.{head_line, content_lines, allow_lines, kind_lines, close_lines, request_text, response_text, phrase, is_answer_code};
+ghost use Rattle.satp_http.specs.Written.{head_line, content_lines, allow_lines, kind_lines, close_lines, request_text, response_text, phrase, is_answer_code, interim_text};
 
 use http::StatusCode;
 use itoa::Buffer;

@@ -1,8 +1,10 @@
 -- The JSON value of a header.
-use Rattle.std.proofs.Common.{◌≡◌, ℕ, Bool, true, false, cond, List, Option, Some, None, refl, ap, ◌∙◌}
+use Rattle.std.proofs.Common.{◌≡◌, ℕ, zero, suc, ◌<◌, arith, Bool, true, false, cond, List, [], ◌∷◌, Option, Some, None, refl, ap, ◌∙◌}
+use Rattle.std.specs.Prelude.{nat_lt, slice_index}
+use Rattle.std.specs.List.{list_all}
 use Rattle.std.specs.Str.{IsUtf8, is_utf8}
 use Rattle.std.proofs.lemmas.Str.{IsUtf8-from_ascii, IsUtf8-from_is_utf8, is_utf8-from_IsUtf8}
-use Rattle.satp_base.proofs.Plain.{weaker}
+use Rattle.std.proofs.lemmas.Bool.{and_parts, ltb-true}
 use Rattle.serde_json.specs.Data.{Data}
 use Rattle.serde_json.specs.Read.{read}
 use Rattle.serde_json.proofs.OnLiterals.{serde_json_on_literals}
@@ -23,9 +25,14 @@ data_none header h = chosen_none (is_utf8 header) (read header) (λ e. h (IsUtf8
 
 -- ---- the header of each text that is signed here
 
+ascii_from : (xs : List ℕ) → list_all (λ b. nat_lt b 128) xs ≡ true → (i : ℕ) → slice_index xs i < 128
+ascii_from [] e i = omega arith
+ascii_from (x ∷ xs) e zero = ltb-true x 128 (and_parts _ _ e).0
+ascii_from (x ∷ xs) e (suc i) = ascii_from xs (and_parts _ _ e).1 i
+
 own_json : json_of own_header ≡ read own_header
 unfolding json_of
-own_json = ap (λ (b : Bool). cond b (read own_header) None) (is_utf8-from_IsUtf8 own_header (IsUtf8-from_ascii own_header (IsAscii-from_all own_header refl)))
+own_json = ap (λ (b : Bool). cond b (read own_header) None) (is_utf8-from_IsUtf8 own_header (IsUtf8-from_ascii own_header (ascii_from own_header refl)))
 
 own_data : data_fault (read own_header) ≡ None
 unfolding serde_json_on_literals

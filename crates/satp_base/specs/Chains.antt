@@ -1,5 +1,5 @@
 -- The texts of a chain, which its parts determine.
-use Rattle.std.specs.Prelude.{◌≡◌, ℕ, zero, suc, ◌+◌, ◌-◌, ◌%◌, ◌==◌, List, [], ◌∷◌, ◌++◌, map, length, replicate, slice_get, Some, if◌then◌else◌}
+use Rattle.std.specs.Prelude.{◌≡◌, ◌≢◌, ℕ, zero, suc, ◌+◌, ◌-◌, ◌%◌, ◌==◌, List, [], ◌∷◌, ◌++◌, map, length, replicate, slice_get, Option, Some, None, if◌then◌else◌}
 use Rattle.std.specs.List.{AllByRecursion}
 use Rattle.std.specs.Option.{option_map_or}
 use Rattle.sha2.specs.Sha256.{sha256}
@@ -11,12 +11,19 @@ use Rattle.satp_base.specs.declared.name.Name.{Name}
 use Rattle.satp_base.specs.declared.session.SessionId.{SessionId}
 use Rattle.satp_base.specs.declared.message.Link.{Link}
 use Rattle.satp_base.specs.declared.message.Kind.{Kind}
+use Rattle.satp_base.specs.declared.message.Kind.TheVariants as kind
+use Rattle.satp_base.specs.declared.message.Reason.{Reason}
+use Rattle.satp_base.specs.declared.message.Reason.TheVariants as reason
 use Rattle.satp_base.specs.declared.message.Role.{Role}
 use Rattle.satp_base.specs.declared.message.Role.TheVariants.{Origin, Recipient}
 use Rattle.satp_base.specs.declared.message.Part.{Part}
+use Rattle.satp_base.specs.declared.message.Part.TheVariants as part
 use Rattle.satp_base.specs.declared.message.Body.TheVariants.{Chain}
 use Rattle.satp_base.specs.declared.message.Message.{Message}
 use Rattle.satp_base.specs.declared.head.Head.{Head}
+use Rattle.satp_base.specs.declared.record.Cause.TheVariants as cause
+use Rattle.satp_base.specs.declared.record.Way.{Way}
+use Rattle.satp_base.specs.declared.record.Way.TheVariants.{Back}
 
 -- ---- places
 
@@ -49,6 +56,20 @@ last_link texts = link_at texts (length texts)
 -- the length of a chain, and the links of its last two texts
 abbrev pub head_of : List (List ℕ) → Head
 head_of texts = record { length = length texts; last = last_link texts; before = link_at texts (length texts - 1) }
+
+-- ---- what a side says
+
+-- the reason that a reject names: why the ledger refused the mint, where that made the recipient turn back; else that it was asked to
+abbrev pub reason_of : Option Way → Reason
+reason_of (Some (Back cause.UnknownAsset)) = reason.UnknownAsset
+reason_of (Some (Back cause.MintCapped)) = reason.MintCapped
+reason_of (Some (Back cause.LedgerTaken)) = reason.LedgerTaken
+reason_of _ = reason.Aborted
+
+-- what a side that has decided so says by a message of a kind that is due; a proposal isn't, and names its terms
+abbrev pub made_part : Option Way → Kind → Part
+made_part way kind.Reject = part.Reject (reason_of way)
+made_part way k = part.Plain k
 
 -- ---- texts
 
@@ -92,3 +113,9 @@ AppendsText =
 -- the next message of a tale is made by the side whose place it is
 abbrev pub SidesTakeTurns : Type 0
 SidesTakeTurns = (tale : List Kind) (k : Kind) → IsTale tale → IsTale (tale ++ k ∷ []) → maker k ≡ Some (role_at (length tale + 1))
+
+-- what is said by a kind is of that kind, and formed where it is a kind of the chain behind the proposal
+abbrev pub MadePartsAreFormed : Type 0
+MadePartsAreFormed =
+    (way : Option Way) (k : Kind)
+    → (part_kind (made_part way k) ≡ k) × (maker k ≢ None → k ≢ kind.TransferProposal → IsPart (made_part way k))

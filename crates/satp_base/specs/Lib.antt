@@ -25,6 +25,8 @@ pub mod Views
 pub mod Roles
 pub mod Signatures
 pub mod Chains
+pub mod Verdicts
+pub mod Sizes
 pub mod Lines
 pub mod Stops
 pub mod Wires

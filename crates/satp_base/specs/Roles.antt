@@ -1,5 +1,5 @@
 -- What each side does next, and which record may come.
-use Rattle.std.specs.Prelude.{◌≡◌, Bool, true, false, IsTrue, IsFalse, List, [], ◌∷◌, ◌++◌, Option, Some, None, if◌then◌else◌}
+use Rattle.std.specs.Prelude.{◌≡◌, ◌↔◌, Bool, true, false, IsTrue, IsFalse, ℕ, List, [], ◌∷◌, ◌++◌, Option, Some, None, Result, Ok, Err, if◌then◌else◌}
 use Rattle.satp_base.specs.declared.message.Kind.TheVariants.{TransferProposal, ProposalReceipt, TransferCommence, CommenceAck, LockAssert, LockReceipt, CommitPrepare, CommitReady, CommitFinal, CommitFinalAck, TransferComplete, Reject, Rollback, RollbackAck}
 use Rattle.satp_base.specs.declared.message.Role.{Role}
 use Rattle.satp_base.specs.declared.message.Role.TheVariants.{Origin, Recipient}
@@ -14,9 +14,11 @@ use Rattle.satp_base.specs.declared.record.Way.{Way}
 use Rattle.satp_base.specs.declared.record.Way.TheVariants.{Commit, Back}
 use Rattle.satp_base.specs.declared.record.Rec.{Rec}
 use Rattle.satp_base.specs.declared.record.Rec.TheVariants.{Took, Made, Did, Chose, Rescue}
+use Rattle.satp_base.specs.declared.record.TooLate.{TooLate}
 use Rattle.satp_base.specs.declared.record.Next.{Next}
 use Rattle.satp_base.specs.declared.record.Next.TheVariants.{Append, Act, Wait, Ended}
 use Rattle.satp_base.specs.declared.view.View.{View}
+use Rattle.satp_base.specs.Acts.{MayAnswer}
 use Rattle.satp_base.specs.Tales.{IsTale, has, last_is, last_by, is_whole, maker, other}
 use Rattle.satp_base.specs.Views.{KeepsTale, begin, push, view_from}
 
@@ -136,6 +138,15 @@ After Mint (answer.Capped total) r = r ≡ Chose (Back MintCapped)
 After Mint (answer.Taken entry) r = r ≡ Chose (Back LedgerTaken)
 After _ _ r = ⊥
 
+-- The same as a function. Of an answer that the operation may not have it says nothing that matters.
+abbrev pub after_of : LedgerOp → Answer → Rec
+after_of op answer.Done = Did op
+after_of op (answer.NoFunds free) = Chose (Back LockRefused)
+after_of op answer.UnknownAsset = Chose (Back UnknownAsset)
+after_of op (answer.Capped total) = Chose (Back MintCapped)
+after_of Lock (answer.Taken entry) = Chose (Back LockRefused)
+after_of op (answer.Taken entry) = Chose (Back LedgerTaken)
+
 -- ---- which record may come
 
 -- the records that may come beside the table's: a message of the peer, an abort, and a rescue
@@ -152,10 +163,40 @@ pub data RoleRule (role : Role) (v : View) (r : Rec) : Type 0 where
   Answered : (op : LedgerOp) (answer : Answer) → next_of role v ≡ Act op → After op answer r → RoleRule role v r
   Free : Other role v r → RoleRule role v r
 
+-- the side may enter a recovery round: only an origin does, once, and before it has decided
+abbrev pub rescues : Role → View → Bool
+rescues Origin v = both (no_way v.way) (both (negate v.rescue) (negate (is_whole v.tale)))
+rescues Recipient v = false
+
 -- each of the records may come behind those before it
 abbrev pub AreAllowed : Role → View → List Rec → Type 0
 AreAllowed role v [] = Unit {0}
 AreAllowed role v (r ∷ rs) = RoleRule role v r × AreAllowed role (push v r) rs
+
+-- the view of allowed records, from the beginning of a session under some terms
+pub record IsReached (role : Role) (v : View) : Type 0 where
+  pub terms : Terms
+  pub recs : List Rec
+  pub allowed : AreAllowed role (begin role terms) recs
+  pub view : v ≡ view_from (begin role terms) recs
+
+-- ---- an abort
+
+-- An abort comes too late: the origin has committed; or the recipient has said that it is ready, and the origin hasn't turned back.
+abbrev pub is_late : Role → View → Bool
+is_late Origin v = is_commit v.way
+is_late Recipient v = both (has CommitReady v.tale) (negate (has Rollback v.tale))
+
+-- the place of the message that decides it
+abbrev pub late_place : Role → ℕ
+late_place Origin = 9
+late_place Recipient = 8
+
+-- what a side that is asked to turn back answers: too late; no record where the session is on its way back; else the decision
+abbrev pub abort_of : Role → View → Result (Option Rec) TooLate
+abort_of role v = if is_late role v then Err (record { place = late_place role }) else if is_turned v then Ok None else Ok (Some (Chose (Back Aborted)))
+
+-- ---- laws
 
 -- Behind any list of allowed records the kinds are a tale, and a further record that is allowed keeps them one.
 abbrev pub LawTales : Role → Type 0
@@ -163,3 +204,11 @@ LawTales role =
     (terms : Terms) (rs : List Rec) → AreAllowed role (begin role terms) rs
     → IsTale (view_from (begin role terms) rs).tale
     × ((r : Rec) → RoleRule role (view_from (begin role terms) rs) r → KeepsTale (view_from (begin role terms) rs).tale r)
+
+-- The record behind an answer is what the function gives of an answer that the operation may have.
+abbrev pub AnswersGiveRecords : Type 0
+AnswersGiveRecords = (op : LedgerOp) (a : Answer) (r : Rec) → After op a r ↔ (MayAnswer op a × (r ≡ after_of op a))
+
+-- a rescue may come exactly where the side may enter a recovery round
+abbrev pub RescuesAsRuled : Type 0
+RescuesAsRuled = (role : Role) (v : View) → IsTrue (rescues role v) ↔ RoleRule role v Rescue

@@ -19,12 +19,14 @@ mod member;
 mod message;
 mod name;
 mod record;
+mod role_laws;
 mod session;
 mod site;
 mod stream;
 mod tale;
 mod text;
 mod text_laws;
+mod verdict;
 mod view;
 mod wire;
 mod words;
@@ -48,11 +50,16 @@ pub use member::MemberName;
 pub use message::{Body, Kind, Link, Message, Part, Reason, Role, Terms};
 pub use name::Name;
 pub use record::{Cause, Next, Rec, TooLate, Way};
+pub use role_laws::{law_answers, law_rescues};
 pub use session::SessionId;
 pub use site::{Ledger, LedgerCore, Site, SiteFault};
 pub use stream::{Sink, SinkFault, Source, SourceFault};
 pub use tale::Tale;
 pub use text::{Memory, Text, Texts};
-pub use text_laws::{law_next_text, law_one_own_text, law_signatures, law_turns};
+pub use text_laws::{
+    law_made_parts, law_next_text, law_one_own_text, law_signatures, law_sizes, law_turns,
+    law_verdicts,
+};
+pub use verdict::Verdict;
 pub use view::{Done, View};
 pub use wire::{Dial, Wire, WireFault};

@@ -1,7 +1,9 @@
 //! Theorems on the texts that are signed, and on those of a chain. They stand over definitions alone and make no call.
 
 ghost use Rattle.satp_base.specs.Signatures.{OneMessage, OnePayload};
-ghost use Rattle.satp_base.specs.Chains.{AppendsText, SidesTakeTurns};
+ghost use Rattle.satp_base.specs.Chains.{AppendsText, MadePartsAreFormed, SidesTakeTurns};
+ghost use Rattle.satp_base.specs.Sizes.{ChainTextsAreEntries, OwnTextsAreShort, PayloadsAreShorter};
+ghost use Rattle.satp_base.specs.Verdicts.{TalesGoOn};
 
 /// A compact JWS shows its header and its payload, under whatever keys.
 pub fn law_signatures()
@@ -21,4 +23,22 @@ pub fn law_next_text()
 /// Whose kind a message is goes with its place: the origin's kinds stand at odd places of a tale, the recipient's at even ones.
 pub fn law_turns()
     ensures { SidesTakeTurns }
+{}
+
+/// What is said by a kind is of that kind, and formed where it is a kind of the chain other than the proposal.
+pub fn law_made_parts()
+    ensures { MadePartsAreFormed }
+{}
+
+/// The signed text of a chain message has at most 643 bytes, and an update may carry it; that of any message has at most
+/// 5,815. No text is shorter than the payload that it shows.
+pub fn law_sizes()
+    ensures chain { ChainTextsAreEntries }
+    ensures own { OwnTextsAreShort }
+    ensures payload { PayloadsAreShorter }
+{}
+
+/// A verdict takes a kind exactly where the chain's kinds with it are a tale.
+pub fn law_verdicts()
+    ensures { TalesGoOn }
 {}

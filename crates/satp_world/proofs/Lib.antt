@@ -21,7 +21,6 @@ pub mod EntryLaw
 pub mod FreshTest
 pub mod FreshCheck
 pub mod ReadOff
-pub mod TextSizes
 pub mod Runs
 pub mod Endings
 pub mod LedgerLaw

@@ -37,7 +37,7 @@ use Rattle.satp_world.specs.Worlds.SideMoves.{Proposes, Accepts, Takes, Makes, N
 use Rattle.satp_world.specs.Worlds.WorldMoves.{By}
 use Rattle.satp_world.specs.Examples.{first_book}
 use Rattle.satp_world.proofs.Records.{chain-here, get-new, session-self, view-first, view-here}
-use Rattle.satp_world.proofs.TextSizes.{chain-entry}
+use Rattle.satp_base.proofs.TextSizes.{chain-entry}
 use Rattle.satp_world.proofs.Growth.{note-tale, no-text, one-text}
 use Rattle.satp_world.proofs.Growth.Carries.{As_made, As_taken}
 

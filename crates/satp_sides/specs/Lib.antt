@@ -1,3 +1,6 @@
 pub mod Points
 pub mod Logs
 pub mod Moves
+pub mod Due
+pub mod Temp
+pub mod Calls

@@ -4,3 +4,5 @@ pub mod Moves
 pub mod Due
 pub mod Temp
 pub mod Calls
+pub mod Halves
+pub mod DueLaws

@@ -1,5 +1,5 @@
 -- A gateway between two calls: what it keeps, the moves that change it, and what its records say of one session.
-use Rattle.std.specs.Prelude.{ℕ, Bool, true, false, List, [], ◌∷◌, ◌++◌, map, filter, length, Option, option_map}
+use Rattle.std.specs.Prelude.{ℕ, Bool, true, false, List, [], ◌∷◌, ◌++◌, map, filter, length, Option, Some, None, option_map}
 use Rattle.std.specs.List.{flat_map}
 use Rattle.std.specs.Ordering.{eq_by_cmp}
 use Rattle.satp_base.specs.Keys.{session_cmp}
@@ -8,6 +8,7 @@ use Rattle.satp_base.specs.Money.{Book}
 use Rattle.satp_base.specs.Views.{push, view_of}
 use Rattle.satp_base.specs.declared.name.Name.{Name}
 use Rattle.satp_base.specs.declared.session.SessionId.{SessionId}
+use Rattle.satp_base.specs.declared.message.Kind.{Kind}
 use Rattle.satp_base.specs.declared.message.Role.{Role}
 use Rattle.satp_base.specs.declared.message.Role.TheVariants.{Origin, Recipient}
 use Rattle.satp_base.specs.declared.message.Terms.{Terms}
@@ -61,6 +62,11 @@ records_of s xs = filter (λ x. is_session s x.session) xs
 -- what the records say; none where no record names the session
 abbrev pub view_in : SessionId → List Stored → Option View
 view_in s xs = view_of (map (λ x. x.rec) (records_of s xs))
+
+-- the kinds of its chain's messages
+abbrev pub tale_of : Option View → List Kind
+tale_of None = []
+tale_of (Some v) = v.tale
 
 abbrev pub texts_in_record : Stored → List Text
 texts_in_record x = elim x.rec [ Began role terms ↦ x.text ∷ [] | Took kind ↦ x.text ∷ [] | Made kind ↦ x.text ∷ [] | Did op ↦ [] | Chose way ↦ [] | Rescue ↦ [] ]

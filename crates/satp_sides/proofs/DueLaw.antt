@@ -34,7 +34,7 @@ use Rattle.satp_sides.proofs.Lists.{bools, in_bools, in_lasts, in_ways, lasts, w
 
 -- ---- views and looks
 
-next-is : (role : Role) (v : View) → next_of role v ≡ next_at role (look_of v)
+pub next-is : (role : Role) (v : View) → next_of role v ≡ next_at role (look_of v)
 next-is Origin v = refl
 next-is Recipient v = refl
 

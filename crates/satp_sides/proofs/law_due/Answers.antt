@@ -1,3 +1,4 @@
+use Rattle.satp_sides.proofs.AnswerLaw.{due-answered}
 use Rattle.satp_sides.proofs.DueLaw.{due-rests, due-short, made-rests, turns-enough}
 use Rattle.satp_sides.proofs.law_due.Goals as goal
 
@@ -12,3 +13,6 @@ returns-clause-short c = due-short
 
 pub returns-clause-made : goal.returns-clause-made
 returns-clause-made c = made-rests
+
+pub returns-clause-answered : goal.returns-clause-answered
+returns-clause-answered c = due-answered

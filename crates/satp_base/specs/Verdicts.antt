@@ -1,15 +1,18 @@
 -- What a chain says of a message with its text, and which messages it takes.
-use Rattle.std.specs.Prelude.{◌≡◌, ℕ, zero, suc, ◌+◌, ◌-◌, ◌&&◌, ◌↔◌, Bool, true, not, List, [], ◌∷◌, ◌++◌, length, slice_get, nat_le, nat_lt, if◌then◌else◌, unwrap_or, ⊤}
+use Rattle.std.specs.Prelude.{◌≡◌, ℕ, zero, suc, ◌+◌, ◌-◌, ◌≤◌, ◌&&◌, ◌↔◌, Bool, true, not, List, [], ◌∷◌, ◌++◌, length, slice_get, nat_le, nat_lt, if◌then◌else◌, unwrap_or, ⊤}
 use Rattle.std.specs.Str.{bytes_eq}
-use Rattle.satp_base.specs.Canonical.{part_kind}
-use Rattle.satp_base.specs.Chains.{last_link, link_at, name_of, role_at}
-use Rattle.satp_base.specs.Forms.{IsFormed}
+use Rattle.satp_base.specs.Canonical.{kind_of, part_kind}
+use Rattle.satp_base.specs.Chains.{last_link, link_at, message_at, name_of, role_at}
+use Rattle.satp_base.specs.Forms.{IsFormed, IsPart}
 use Rattle.satp_base.specs.Tales.{IsTale, comes_behind, is_whole, last_of, other}
 use Rattle.satp_base.specs.Values.{name_text}
 use Rattle.satp_base.specs.declared.name.Name.{Name}
 use Rattle.satp_base.specs.declared.session.SessionId.{SessionId}
 use Rattle.satp_base.specs.declared.message.Kind.{Kind}
 use Rattle.satp_base.specs.declared.message.Link.{Link}
+use Rattle.satp_base.specs.declared.message.Kind.TheVariants as kind
+use Rattle.satp_base.specs.declared.message.Part.{Part}
+use Rattle.satp_base.specs.declared.message.Part.TheVariants.{Plain}
 use Rattle.satp_base.specs.declared.message.Body.{Body}
 use Rattle.satp_base.specs.declared.message.Body.TheVariants.{Chain, Recover, Update, Success}
 use Rattle.satp_base.specs.declared.message.Message.{Message}
@@ -90,6 +93,13 @@ abbrev pub place_of : Body → ℕ
 place_of (Chain place previous part) = place
 place_of _ = 0
 
+-- a message of recovery counts as an ill-formed part
+abbrev pub part_of : Body → Part
+part_of (Chain place previous part) = part
+part_of (Recover length last) = Plain kind.Recover
+part_of (Update length entries) = Plain kind.RecoverUpdate
+part_of (Success length last) = Plain kind.RecoverSuccess
+
 -- a formed chain message of this session
 pub record IsOfSession (s : SessionId) (m : Message) : Type 0 where
   pub body : IsChainBody m.body
@@ -102,6 +112,31 @@ pub record IsNextOn (chain : ChainState) (m : Message) (text : List ℕ) : Type 
   pub next : verdict_on chain m text ≡ verdict.Next
   pub receiver : m.receiver ≡ taker_at chain (place_of m.body)
 
+-- the message with this part that the chain takes next
+abbrev pub next_message : ChainState → Part → Message
+next_message chain part = message_at chain.session chain.recipient (length chain.texts + 1) (last_link chain.texts) part
+
+-- ---- laws
+
 -- a verdict takes a kind exactly where the kinds of the chain with it are a tale too
 abbrev pub TalesGoOn : Type 0
 TalesGoOn = (tale : List Kind) (kind : Kind) → IsTale tale → (extends tale kind ≡ true) ↔ IsTale (tale ++ kind ∷ [])
+
+-- What is the next on a chain is the message with its part that the chain takes next, and its kind goes on with the tale.
+abbrev pub NextIsTheOne : Type 0
+NextIsTheOne =
+    (chain : ChainState) (m : Message) (text : List ℕ) → IsNextOn chain m text
+    → (m ≡ next_message chain (part_of m.body)) × (IsTale chain.tale → IsTale (chain.tale ++ kind_of m.body ∷ []))
+
+-- And a message with a formed part whose kind goes on with the tale is the next one, whatever its text.
+abbrev pub TheOneIsNext : Type 0
+TheOneIsNext =
+    (chain : ChainState) (part : Part) (text : List ℕ) → length chain.tale ≡ length chain.texts → IsTale chain.tale
+    → IsPart part → IsTale (chain.tale ++ part_kind part ∷ []) → IsNextOn chain (next_message chain part) text
+
+-- A whole chain looks at its last two texts alone: with others, as many of them and the same at its last two places, it says the same.
+abbrev pub LooksAtTheLastTwo : Type 0
+LooksAtTheLastTwo =
+    (chain : ChainState) (others : List (List ℕ)) (m : Message) (text : List ℕ) → length others ≡ length chain.texts → is_whole chain.tale ≡ true
+    → ((place : ℕ) → length chain.texts ≤ place + 1 → text_at others place ≡ text_at chain.texts place)
+    → verdict_on (record chain { texts = others }) m text ≡ verdict_on chain m text

@@ -3,7 +3,7 @@
 ghost use Rattle.satp_base.specs.Signatures.{OneMessage, OnePayload};
 ghost use Rattle.satp_base.specs.Chains.{AppendsText, MadePartsAreFormed, SidesTakeTurns};
 ghost use Rattle.satp_base.specs.Sizes.{ChainTextsAreEntries, OwnTextsAreShort, PayloadsAreShorter};
-ghost use Rattle.satp_base.specs.Verdicts.{TalesGoOn};
+ghost use Rattle.satp_base.specs.Verdicts.{LooksAtTheLastTwo, NextIsTheOne, TalesGoOn, TheOneIsNext};
 
 /// A compact JWS shows its header and its payload, under whatever keys.
 pub fn law_signatures()
@@ -38,7 +38,12 @@ pub fn law_sizes()
     ensures payload { PayloadsAreShorter }
 {}
 
-/// A verdict takes a kind exactly where the chain's kinds with it are a tale.
+/// A verdict takes a kind exactly where the chain's kinds with it are a tale. What a chain takes next is one message for each
+/// part, and it takes that message exactly where the part goes on with the tale. A whole chain looks at its last two texts
+/// alone, so that it answers alike where the others are no longer kept.
 pub fn law_verdicts()
-    ensures { TalesGoOn }
+    ensures tales { TalesGoOn }
+    ensures one { NextIsTheOne }
+    ensures next { TheOneIsNext }
+    ensures whole { LooksAtTheLastTwo }
 {}

@@ -1,4 +1,4 @@
--- Fronts of chains, and parts from texts.
+-- Prefixes of chains, and parts from texts.
 use Rattle.std.proofs.Common.{◌≡◌, ℕ, zero, suc, ◌+◌, ◌<◌, ◌≤◌, true, List, [], ◌∷◌, map, length, take, refl, ap, ap₂, subst, sym, ◌∙◌, arith, inl, inr}
 use Rattle.std.specs.List.{AllByRecursion, take-map}
 use Rattle.std.proofs.lemmas.Bool.{cases_lt}
@@ -8,6 +8,7 @@ use Rattle.satp_base.specs.Chains.{ChainOf, link_of, message_at, texts_from, zer
 use Rattle.satp_base.specs.Forms.{IsLink, IsPart, IsPlace}
 use Rattle.satp_base.specs.Signatures.{own}
 use Rattle.satp_base.specs.Tales.{IsTale}
+use Rattle.satp_base.specs.Verdicts.{part_of}
 use Rattle.satp_base.proofs.ChainLemmas.{link_formed, zero_formed}
 use Rattle.satp_base.proofs.Finite.{In, all_of, all_of-at, any_of-in}
 use Rattle.satp_base.proofs.Finite.In.{here, there}
@@ -19,9 +20,8 @@ use Rattle.satp_base.specs.declared.message.Kind.{Kind}
 use Rattle.satp_base.specs.declared.message.Link.{Link}
 use Rattle.satp_base.specs.declared.message.Part.{Part}
 use Rattle.satp_base.specs.declared.message.Message.{Message}
-use Rattle.satp_chain.specs.Chained.{part_of}
 
--- ---- every front of a tale is a tale
+-- ---- every prefix of a tale is a tale
 
 abbrev lengths : List ℕ
 lengths = 0 ∷ 1 ∷ 2 ∷ 3 ∷ 4 ∷ 5 ∷ 6 ∷ 7 ∷ 8 ∷ 9 ∷ 10 ∷ []
@@ -93,9 +93,9 @@ module _ (session : SessionId) (recipient : Name) where
       let at : IsPlace place = record { low = low; high = omega arith } in
       let message = own_shows key other (message_at session recipient place link p) (message_at session recipient place link q) ((at, hp.0), formed) ((at, hq.0), formed) first in
       let part : p ≡ q = ap (λ (m : Message). part_of m.body) message in
-      let behind = subst (λ (t : List ℕ). tail ≡ texts_from session recipient other (place + 1) (link_of t) qs) (sym first) rest in
+      let after = subst (λ (t : List ℕ). tail ≡ texts_from session recipient other (place + 1) (link_of t) qs) (sym first) rest in
       ap₂ (λ (x : Part) (xs : List Part). x ∷ xs) part
-      (same_parts key other (place + 1) (link_of a) ps qs (link_formed a) (omega arith) (omega arith) (omega arith) hp.1 hq.1 behind)
+      (same_parts key other (place + 1) (link_of a) ps qs (link_formed a) (omega arith) (omega arith) (omega arith) hp.1 hq.1 after)
 
   pub one_list : (key other : List ℕ) (parts parts' : List Part) (texts : List (List ℕ)) → ChainOf session recipient key parts texts → ChainOf session recipient other parts' texts → parts ≡ parts'
   one_list key other parts parts' texts held held' =

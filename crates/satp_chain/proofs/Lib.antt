@@ -1,3 +1,2 @@
 mod ChainedLemmas
 mod LawLemmas
-pub mod WholeLemmas

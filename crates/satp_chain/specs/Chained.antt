@@ -1,19 +1,15 @@
 -- What a chain holds.
 use Rattle.std.specs.Prelude.{ℕ, zero, suc, ◌+◌, List, [], ◌∷◌, ◌++◌, map, length, slice_get, Option, Some, None, if◌then◌else◌}
 use Rattle.satp_base.specs.Canonical.{kind_of}
-use Rattle.satp_base.specs.Chains.{ChainOf, last_link, message_at, role_at}
+use Rattle.satp_base.specs.Chains.{ChainOf, role_at}
 use Rattle.satp_base.specs.Signatures.{own}
 use Rattle.satp_base.specs.Tales.{is_whole}
+use Rattle.satp_base.specs.Verdicts.{ChainState, next_message, part_of}
 use Rattle.satp_base.specs.declared.name.Name.{Name}
 use Rattle.satp_base.specs.declared.session.SessionId.{SessionId}
 use Rattle.satp_base.specs.declared.message.Kind.{Kind}
-use Rattle.satp_base.specs.declared.message.Kind.TheVariants as kind
 use Rattle.satp_base.specs.declared.message.Role.{Role}
 use Rattle.satp_base.specs.declared.message.Part.{Part}
-use Rattle.satp_base.specs.declared.message.Part.TheVariants.{Plain}
-use Rattle.satp_base.specs.declared.message.Body.{Body}
-use Rattle.satp_base.specs.declared.message.Body.TheVariants.{Chain, Recover, Update, Success}
-use Rattle.satp_base.specs.declared.message.Message.{Message}
 use Rattle.satp_chain.specs.declared.signed.Signed.{Signed}
 
 -- a session, and the messages of its chain with their texts
@@ -21,13 +17,6 @@ pub record Chained : Type 0 where
   pub session : SessionId
   pub recipient : Name
   pub kept : List Signed
-
--- a message of recovery counts as an ill-formed part
-abbrev pub part_of : Body → Part
-part_of (Chain place previous part) = part
-part_of (Recover length last) = Plain kind.Recover
-part_of (Update length entries) = Plain kind.RecoverUpdate
-part_of (Success length last) = Plain kind.RecoverSuccess
 
 abbrev pub parts_in : Chained → List Part
 parts_in chain = map (λ signed. part_of signed.message.body) chain.kept
@@ -55,9 +44,10 @@ IsChain chain key = ChainOf chain.session chain.recipient key (parts_in chain) (
 abbrev pub pushed : Chained → Signed → Chained
 pushed chain signed = record { session = chain.session; recipient = chain.recipient; kept = chain.kept ++ signed ∷ [] }
 
--- the next message of the chain, with this part, and its text
-abbrev pub next_message : Chained → Part → Message
-next_message chain part = message_at chain.session chain.recipient (length chain.kept + 1) (last_link (texts_in chain)) part
+-- what the chain shows
+abbrev pub state_of : Chained → ChainState
+state_of chain = record { session = chain.session; recipient = chain.recipient; tale = tale_of chain; texts = texts_in chain }
 
+-- the next message of the chain, with this part, and its text
 abbrev pub next_signed : Chained → List ℕ → Part → Signed
-next_signed chain key part = record { message = next_message chain part; text = own key (next_message chain part) }
+next_signed chain key part = record { message = next_message (state_of chain) part; text = own key (next_message (state_of chain) part) }

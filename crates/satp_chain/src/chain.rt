@@ -4,12 +4,14 @@ ghost use Rattle.satp_base.specs.Chains.{role_at};
 ghost use Rattle.satp_base.specs.Forms.{IsFormed};
 ghost use Rattle.satp_base.specs.Signatures.{own};
 
-use crate::signed::{Signed, Verdict};
+use crate::signed::Signed;
 
 #[cfg(test)]
 mod tests;
 
-use satp_base::{Body, Head, Kind, Link, Memory, Message, Name, Part, Role, SessionId, Tale, Text};
+use satp_base::{
+    Body, Head, Kind, Link, Memory, Message, Name, Part, Role, SessionId, Tale, Text, Verdict,
+};
 use satp_canon::{link_of, write};
 use satp_jws::{Key, sign};
 use std::alloc::Global;
@@ -48,8 +50,9 @@ impl Chain {
     ghost use Rattle.satp_base.specs.Forms.{IsPart};
     ghost use Rattle.satp_base.specs.Canonical.{kind_of, part_kind};
     ghost use Rattle.satp_base.specs.Tales.{IsTale};
-    ghost use Rattle.satp_chain.specs.Chained.{IsChain, entry_at, next_signed, pushed, tale_of, texts_in, turn_of};
-    ghost use Rattle.satp_chain.specs.Verdicts.{Follows, IsOfChain, kept_verdict, maker_at, next_verdict, place_verdict, taker_at, text_at, verdict};
+    ghost use Rattle.satp_chain.specs.Chained.{IsChain, entry_at, next_signed, pushed, state_of, tale_of, texts_in, turn_of};
+    ghost use Rattle.satp_base.specs.Verdicts.{kept_verdict, maker_at, next_verdict, place_verdict, taker_at, text_at};
+    ghost use Rattle.satp_chain.specs.Verdicts.{Follows, IsOfChain, verdict};
 
     /// The chain of no message, with room for all that may come.
     pub fn new(alloc: Global, session: SessionId, recipient: Name) -> Result<Chain, Memory>
@@ -209,7 +212,7 @@ impl Chain {
     }
 
     fn maker(&self, place: u8) -> Name
-        ensures { result ≡ maker_at self.now place }
+        ensures { result ≡ maker_at (state_of self.now) place }
     {
         match role_at(place) {
             Role::Origin => self.session.gateway,
@@ -218,7 +221,7 @@ impl Chain {
     }
 
     fn taker(&self, place: u8) -> Name
-        ensures { result ≡ taker_at self.now place }
+        ensures { result ≡ taker_at (state_of self.now) place }
     {
         match role_at(place) {
             Role::Origin => self.recipient,
@@ -235,7 +238,7 @@ impl Chain {
         text: &[u8],
     ) -> Verdict
         requires { 1 ≤ place }
-        ensures { result ≡ place_verdict self.now sender.now place previous.now kind text.now }
+        ensures { result ≡ place_verdict (state_of self.now) sender.now place previous.now kind text.now }
     {
         if sender.bytes() != self.maker(place).bytes() {
             return Verdict::WrongSender;
@@ -252,8 +255,8 @@ impl Chain {
 
     fn kept_verdict(&self, place: u8, text: &[u8]) -> Verdict
         requires low { 1 ≤ place }
-        requires high { place ≤ length self.now.kept }
-        ensures { result ≡ kept_verdict self.now place text.now }
+        requires high { place ≤ length (texts_in self.now) }
+        ensures { result ≡ kept_verdict (state_of self.now) place text.now }
     {
         if self.tale.whole() && place < self.tale.length().saturating_sub(1) {
             return Verdict::Again { place };
@@ -268,7 +271,7 @@ impl Chain {
     }
 
     fn next_verdict(&self, place: u8, previous: &Link, kind: Kind) -> Verdict
-        ensures { result ≡ next_verdict self.now place previous.now kind }
+        ensures { result ≡ next_verdict (state_of self.now) place previous.now kind }
     {
         let kept = self.link(self.tale.length());
         if *previous != kept {
@@ -284,8 +287,8 @@ impl Chain {
     /// Whether this text stands at a place.
     fn is_kept(&self, place: u8, text: &[u8]) -> bool
         requires low { 1 ≤ place }
-        requires high { place ≤ length self.now.kept }
-        ensures { result ≡ bytes_eq text.now (text_at self.now place) }
+        requires high { place ≤ length (texts_in self.now) }
+        ensures { result ≡ bytes_eq text.now (text_at (texts_in self.now) place) }
     {
         match self.entry(place) {
             Some(signed) => text == signed.text.bytes(),

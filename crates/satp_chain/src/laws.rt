@@ -1,17 +1,17 @@
 //! Theorems on chains. They stand over definitions alone and make no call.
 
-ghost use Rattle.satp_chain.specs.ChainLaws.{FrontsAreChains, LooksAtTheLastTwo, OneListOfParts, OneListOfTexts, TalesGoOn};
+ghost use Rattle.satp_chain.specs.ChainLaws.{NextFollows, OneListOfParts, OneListOfTexts, PrefixesAreChains, WhatFollows};
 
-/// The parts of a chain determine its texts, and its texts its parts; and every front of a chain is a chain.
-/// A verdict takes a kind exactly where the chain's kinds with it are a tale.
+/// The parts of a chain determine its texts, and its texts its parts; and every prefix of a chain is a chain.
 pub fn law_chains()
     ensures texts { OneListOfTexts }
     ensures parts { OneListOfParts }
-    ensures fronts { FrontsAreChains }
-    ensures tales { TalesGoOn }
+    ensures prefixes { PrefixesAreChains }
 {}
 
-/// A whole chain looks at its last two texts alone, so that it answers alike where the others are no longer kept.
-pub fn law_whole()
-    ensures { LooksAtTheLastTwo }
+/// What follows is the one next message of the chain, with the next text where it is signed with the key. And the next
+/// message of each part that goes on with the tale follows.
+pub fn law_next()
+    ensures one { WhatFollows }
+    ensures next { NextFollows }
 {}

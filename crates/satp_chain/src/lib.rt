@@ -6,5 +6,6 @@ mod laws;
 mod signed;
 
 pub use chain::Chain;
-pub use laws::{law_chains, law_whole};
-pub use signed::{Signed, Verdict};
+pub use laws::{law_chains, law_next};
+pub use satp_base::Verdict;
+pub use signed::Signed;

@@ -1,16 +1,16 @@
 ghost use Rattle.std.specs.Prelude.{◌≡◌, ◌↔◌, IsTrue, Some, None, Ok, Err};
 ghost use Rattle.satp_base.specs.Acts.{MayAnswer};
-ghost use Rattle.satp_base.specs.Roles.{After, Other, RoleRule, next_of};
-ghost use Rattle.satp_origin.specs.Choices.{abort_of};
+ghost use Rattle.satp_base.specs.Roles.{After, Other, RoleRule, abort_of, after_of, next_of};
 
 use crate::table::{committed, next, turned_back};
 use satp_base::{Answer, Cause, Kind, LedgerOp, Next, Rec, Role, TooLate, View, Way};
 
-/// The record behind the ledger's answer to the operation that was due.
+/// The record after the ledger's answer to the operation that was due.
 pub fn after(view: &View, op: LedgerOp, answer: &Answer) -> Rec
     requires due { next_of Role.Origin view.now ≡ Next.Act op }
     requires given { MayAnswer op answer.now }
-    ensures { After op answer.now result }
+    ensures allowed { After op answer.now result }
+    ensures same { result ≡ after_of op answer.now }
 {
     match answer {
         Answer::Done => Rec::Did(op),
@@ -25,7 +25,7 @@ pub fn after(view: &View, op: LedgerOp, answer: &Answer) -> Rec
 ///
 /// `TooLate` of place 9 comes once this origin has committed.
 pub fn abort(view: &View) -> Result<Option<Rec>, TooLate>
-    ensures { result ≡ abort_of view.now }
+    ensures { result ≡ abort_of Role.Origin view.now }
 {
     if committed(view.way) {
         return Err(TooLate { place: 9 });

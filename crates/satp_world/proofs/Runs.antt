@@ -4,7 +4,7 @@ use Rattle.std.specs.Prelude.{slice_get}
 use Rattle.std.proofs.lemmas.Bool.{and_from}
 use Rattle.std.proofs.lemmas.List.{length_push}
 use Rattle.satp_base.specs.Canonical.{part_kind}
-use Rattle.satp_base.specs.Chains.{head_of, last_link, next_text, role_at}
+use Rattle.satp_base.specs.Chains.{head_of, last_link, message_at, next_text, role_at}
 use Rattle.satp_base.specs.Forms.{IsMessage, IsPart, are_entries}
 use Rattle.satp_base.specs.Founding.{Founding}
 use Rattle.satp_base.specs.LedgerRule.{LedgerRule}
@@ -317,7 +317,7 @@ module _ (st : Setting) (fa fb : Founding) (s : SessionId) (named : s.gateway �
         let asked = message_from st A s (body.Recover (length (chain_in s r1)) (head_of (chain_in s r1)).last) in
         let w5 : Reached st fa fb (both_sides r1 ba rb bb (own st.key asked ∷ t ∷ k.bag)) = Goes _ _ w4 (By A _ _ (Says (own st.key asked) (Recovers s (push va Rescue) view1 (omega (arith, ap length chain1, k.long, short), link_at_formed (chain_in s r1) (length (chain_in s r1)))))) in
         let one = ap (last_texts 1) chain_b ∙ last_one (chain_in s k.rb) t in
-        let fits = chain-entry st.key s (recipient_for st B vb.role) (at + 1) (last_link (chain_in s k.rb)) p ((record { low = omega arith; high = omega (arith, same_length, short) }, f), link_at_formed (chain_in s k.rb) at) in
+        let fits = chain-entry st.key (message_at s (recipient_for st B vb.role) (at + 1) (last_link (chain_in s k.rb)) p) ((record { low = omega arith; high = omega (arith, same_length, short) }, f), link_at_formed (chain_in s k.rb) at) tt in
         let few = subst (λ es. are_entries es ≡ true) (sym one) (and_from _ _ refl (and_from _ _ fits refl)) in
         let answered = message_from st B s (body.Update (length (chain_in s rb)) (last_texts 1 (chain_in s rb))) in
         let formed : IsMessage answered = ((omega (arith, ap length chain_b, length_push (chain_in s k.rb) t, same_length, short), few), tt) in

@@ -1,5 +1,4 @@
 use Rattle.std.proofs.Common.{sym, ◌∙◌}
-use Rattle.satp_chain.proofs.ChainedLemmas.{extends-by_tale, extends-tale}
 use Rattle.satp_chain.proofs.LawLemmas.{chain_front, one_list}
 use Rattle.satp_chain.proofs.laws.law_chains.Goals as goal
 
@@ -9,8 +8,5 @@ returns-clause-texts c = λ session recipient key parts texts others first secon
 pub returns-clause-parts : goal.returns-clause-parts
 returns-clause-parts c = one_list
 
-pub returns-clause-fronts : goal.returns-clause-fronts
-returns-clause-fronts c = chain_front
-
-pub returns-clause-tales : goal.returns-clause-tales
-returns-clause-tales c = λ chain kind tale. (extends-tale chain kind tale, extends-by_tale chain kind tale)
+pub returns-clause-prefixes : goal.returns-clause-prefixes
+returns-clause-prefixes c = chain_front

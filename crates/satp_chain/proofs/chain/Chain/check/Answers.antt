@@ -1,8 +1,9 @@
 use Rattle.std.proofs.Common.{◌≡◌, ◌∙◌, ap, subst}
 use Rattle.satp_base.specs.Tales.{IsTale}
-use Rattle.satp_chain.specs.Chained.{tale_of}
+use Rattle.satp_base.proofs.VerdictLemmas.{next_tale, off_tale}
+use Rattle.satp_chain.specs.Chained.{state_of, tale_of}
 use Rattle.satp_chain.specs.Verdicts.{verdict}
-use Rattle.satp_chain.proofs.ChainedLemmas.{checked, next_tale, off_tale}
+use Rattle.satp_chain.proofs.ChainedLemmas.{checked}
 use Rattle.satp_chain.proofs.chain.Chain.check.Goals as goal
 
 pub returns-clause-tale : goal.returns-clause-tale
@@ -14,7 +15,7 @@ verdict_is c =
     c.in-Chain.is c.kind.ensures c.bytes.ensures c.place_verdict.ensures
 
 pub returns-clause-next : goal.returns-clause-next
-returns-clause-next c e = next_tale c.args.self.now c.args.signed.now (returns-clause-tale c) c.requires.body (verdict_is c ∙ e)
+returns-clause-next c e = next_tale (state_of c.args.self.now) c.args.signed.now.message c.args.signed.now.text (returns-clause-tale c) c.requires.body (verdict_is c ∙ e)
 
 pub returns-clause-off : goal.returns-clause-off
-returns-clause-off c place e = off_tale c.args.self.now c.args.signed.now place (returns-clause-tale c) (verdict_is c ∙ e)
+returns-clause-off c place e = off_tale (state_of c.args.self.now) c.args.signed.now.message c.args.signed.now.text place (returns-clause-tale c) (verdict_is c ∙ e)

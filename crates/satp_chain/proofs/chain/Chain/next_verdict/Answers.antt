@@ -1,6 +1,6 @@
 use Rattle.std.proofs.Common.{Bool, cond, ap, sym, ◌∙◌}
 use Rattle.satp_chain.specs.Chained.{tale_of}
-use Rattle.satp_chain.specs.declared.signed.Verdict.TheVariants.{Next, OffTale}
+use Rattle.satp_base.specs.declared.verdict.Verdict.TheVariants.{Next, OffTale}
 use Rattle.satp_chain.proofs.ChainedLemmas.{next_answers}
 use Rattle.satp_chain.proofs.chain.Chain.next_verdict.Goals as goal
 

@@ -12,10 +12,8 @@ pub mod Safety
 pub mod SafeTest
 pub mod SafeCheck
 pub mod SafeLaw
-pub mod Records
 pub mod RuleMoves
-pub mod Chained
-pub mod Growth
+pub mod Tied
 pub mod PairLaw
 pub mod EntryLaw
 pub mod FreshTest

@@ -26,10 +26,13 @@ use Rattle.satp_base.specs.Roles.{RoleRule, either, next_of, After}
 use Rattle.satp_base.specs.Roles.RoleRule.{Due, Answered, Free}
 use Rattle.satp_base.proofs.RoleLemmas.{role-gives, after-shape, makes-is}
 use Rattle.satp_base.proofs.SessionLemmas.{sessions_total}
-use Rattle.satp_world.specs.Sessions.{Moves, Agrees, can_do, entry_is}
+use Rattle.satp_sides.specs.Logs.{IsNote}
+use Rattle.satp_sides.specs.Moves.{LedgerFits}
+use Rattle.satp_sides.specs.Points.{is_session}
+use Rattle.satp_sides.specs.Halves.{Agrees, can_do, entry_is}
+use Rattle.satp_world.specs.Sessions.{Moves}
 use Rattle.satp_world.specs.Sessions.Moves.{Appends, Learns, Decides}
-use Rattle.satp_world.specs.Worlds.{IsNote, LedgerFits, is_session}
-use Rattle.satp_world.proofs.Records.{session-self}
+use Rattle.satp_sides.proofs.Records.{session-self}
 
 -- ---- the ledger's rule, at the entry of the session
 

@@ -6,7 +6,9 @@
 #![tactic(auto)]
 
 mod choice;
+mod laws;
 #[cfg(test)]
 mod tests;
 
 pub use choice::{RecoveryFault, Step, agree, answer, take};
+pub use laws::law_rounds;

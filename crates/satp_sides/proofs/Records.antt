@@ -52,7 +52,7 @@ chain-here s xs x h =
     ∙ ap (λ ys. chain_in s xs ++ ys) (append-nil (texts_in_record x))
 
 -- the view behind one record more
-from-more : (v : View) (rs : List Rec) (r : Rec) → view_from v (rs ++ r ∷ []) ≡ push (view_from v rs) r
+pub from-more : (v : View) (rs : List Rec) (r : Rec) → view_from v (rs ++ r ∷ []) ≡ push (view_from v rs) r
 from-more v [] r = refl
 from-more v (q ∷ rs) r = from-more (push v q) rs r
 

@@ -3,7 +3,9 @@
 //! The laws of this crate stand over definitions alone. They make no call: what each says is its contract.
 #![tactic(auto)]
 
+ghost use Rattle.satp_sides.specs.Points.{Party};
 ghost use Rattle.satp_sides.specs.DueLaws.{DueIsAnswered, DueIsShort, DueRests, MadeRests, TurnsAreEnough};
+ghost use Rattle.satp_sides.specs.LogLaws.{LogGrows, LogSessions};
 
 /// Due work is done within three turns, over every view: it stores at most three records and asks for at most two
 /// operations, and after it, or after a message that it makes, nothing is due. What is due is answered on each entry
@@ -14,4 +16,10 @@ pub fn law_due()
     ensures short { DueIsShort }
     ensures made { MadeRests }
     ensures answered { DueIsAnswered }
+{}
+
+/// What holds of every log.
+pub fn law_logs()
+    ensures grows { (p : Party) → LogGrows p }
+    ensures sessions { LogSessions }
 {}

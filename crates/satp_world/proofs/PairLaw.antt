@@ -33,7 +33,8 @@ use Rattle.satp_world.specs.Sessions.Moves.{Takes, Acts}
 use Rattle.satp_world.specs.Sessions.SessionMoves.{Proposes, Accepts, Origin_moves, Recipient_moves}
 use Rattle.satp_world.specs.Worlds.{DealGoesOn}
 use Rattle.satp_sides.proofs.Records.{session-self, view-here, view-first, view-none, view-apart}
-use Rattle.satp_world.proofs.RuleMoves.{agrees-by, note-moves, made-moves, took-rule, made-rule, entry-apart}
+use Rattle.satp_sides.proofs.Rules.{made-rule, took-rule}
+use Rattle.satp_world.proofs.RuleMoves.{agrees-by, note-moves, made-moves, entry-apart}
 use Rattle.satp_base.proofs.Places.{maker-at}
 use Rattle.satp_sides.specs.Logs.{IsNote}
 use Rattle.satp_sides.specs.Moves.{LedgerFits}

@@ -49,7 +49,7 @@ use Rattle.satp_world.proofs.StepLaw as step
 use Rattle.satp_world.proofs.TaleSteps.{begun-in}
 use Rattle.satp_world.proofs.PairLaw.{role-is, session_by}
 use Rattle.satp_sides.proofs.Records.{is-session, records-apart, records-here, view-apart, view-first, view-here}
-use Rattle.satp_world.proofs.RuleMoves.{took-rule}
+use Rattle.satp_sides.proofs.Rules.{took-rule}
 
 -- ---- a decision comes only where none was made
 

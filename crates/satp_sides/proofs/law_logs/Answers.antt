@@ -1,0 +1,8 @@
+use Rattle.satp_sides.proofs.LogLaw.{log-grows, log-sessions}
+use Rattle.satp_sides.proofs.law_logs.Goals as goal
+
+pub returns-clause-grows : goal.returns-clause-grows
+returns-clause-grows c = log-grows
+
+pub returns-clause-sessions : goal.returns-clause-sessions
+returns-clause-sessions c = log-sessions

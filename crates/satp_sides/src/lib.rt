@@ -5,7 +5,7 @@
 
 ghost use Rattle.satp_sides.specs.Points.{Party};
 ghost use Rattle.satp_sides.specs.DueLaws.{DueIsAnswered, DueIsShort, DueRests, MadeRests, TurnsAreEnough};
-ghost use Rattle.satp_sides.specs.LogLaws.{LogGrows, LogSessions};
+ghost use Rattle.satp_sides.specs.LogLaws.{LogGrows, LogSessions, LogTexts, LogsAreBounded};
 
 /// Due work is done within three turns, over every view: it stores at most three records and asks for at most two
 /// operations, and after it, or after a message that it makes, nothing is due. What is due is answered on each entry
@@ -18,8 +18,12 @@ pub fn law_due()
     ensures answered { DueIsAnswered }
 {}
 
-/// What holds of every log.
+/// What holds of every log, whoever wrote it. It goes on by each record that may come, and its first records are a log.
+/// Of a session it says what records that the role's rule allows say, in the role that the session's name gives, with
+/// the texts of one chain. It begins at most as many sessions as a gateway may, and its texts are those of messages.
 pub fn law_logs()
     ensures grows { (p : Party) → LogGrows p }
     ensures sessions { LogSessions }
+    ensures bounded { LogsAreBounded }
+    ensures texts { LogTexts }
 {}

@@ -6,3 +6,4 @@ pub mod Calls
 pub mod Halves
 pub mod DueLaws
 pub mod LogLaws
+pub mod Said

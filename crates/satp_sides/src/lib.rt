@@ -3,7 +3,9 @@
 //! The laws of this crate stand over definitions alone. They make no call: what each says is its contract.
 #![tactic(auto)]
 
-ghost use Rattle.satp_sides.specs.Points.{Party};
+ghost use Rattle.std.specs.Prelude.{List};
+ghost use Rattle.satp_sides.specs.Points.{Party, Side, Text};
+ghost use Rattle.satp_sides.specs.Said.{MovesGo, SaidIsKept};
 ghost use Rattle.satp_sides.specs.DueLaws.{DueIsAnswered, DueIsShort, DueRests, MadeRests, TurnsAreEnough};
 ghost use Rattle.satp_sides.specs.LogLaws.{LogGrows, LogSessions, LogTexts, LogsAreBounded};
 
@@ -26,4 +28,11 @@ pub fn law_logs()
     ensures sessions { LogSessions }
     ensures bounded { LogsAreBounded }
     ensures texts { LogTexts }
+{}
+
+/// What holds of every list of moves. Its first ones are moves, which is what a stop leaves, and it stays one where more
+/// texts are in the bag. It keeps a log, and what a gateway may say stands in its records from then on.
+pub fn law_moves()
+    ensures go { (p : Party) (side : Side) (bag : List Text) → MovesGo p side bag }
+    ensures said { SaidIsKept }
 {}

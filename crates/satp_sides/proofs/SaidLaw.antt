@@ -66,14 +66,14 @@ last-of n texts = let h = length-drop (length texts - n) texts in let same : len
 whole : (p : Party) (xs : List Stored) (s : SessionId) (b : Body) → IsMessage (message_from p s b) → RecoverySays (chain_in s xs) b → WasSaid p xs (own p.key (message_from p s b))
 whole p xs s b f says = Of_recovery s b (length (chain_in s xs)) (omega arith) f (subst (λ ts. RecoverySays ts b) (sym (take-all (chain_in s xs))) says) refl
 
-said-now : (p : Party) (xs : List Stored) (bag : List Text) (t : Text) → Sayable p xs bag t → WasSaid p xs t
+pub said-now : (p : Party) (xs : List Stored) (bag : List Text) (t : Text) → Sayable p xs bag t → WasSaid p xs t
 said-now p xs bag t (Own_text s v n _ e d r) = Of_chain s v n e d r
 said-now p xs bag _ (Recovers s v e f) = whole p xs s (body.Recover (length (chain_in s xs)) (head_of (chain_in s xs)).last) f (refl, refl)
 said-now p xs bag _ (Updates s v n e c f) = whole p xs s (body.Update (length (chain_in s xs)) (last_texts n (chain_in s xs))) f (refl, last-of n (chain_in s xs))
 said-now p xs bag _ (Succeeds s v e f) = whole p xs s (body.Success (length (chain_in s xs)) (head_of (chain_in s xs)).last) f (refl, refl)
 said-now p xs bag _ (Knows_none m n l g e f a b i d) = Of_recovery m.session (body.Update 0 []) 0 (omega arith) d (refl, refl) refl
 
-said-kept : (p : Party) (xs ys : List Stored) (t : Text) → WasSaid p xs t → WasSaid p (xs ++ ys) t
+pub said-kept : (p : Party) (xs ys : List Stored) (t : Text) → WasSaid p xs t → WasSaid p (xs ++ ys) t
 said-kept p xs ys t (Of_chain s v n e d r) =
     let k = still-named s xs ys v e in
     Of_chain s k.view n k.named (ap (λ ts. slice_get ts n) (chain-append s xs ys) ∙ get-old (chain_in s xs) (chain_in s ys) n t d) (r ∙ sym k.role)

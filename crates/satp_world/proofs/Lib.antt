@@ -25,5 +25,6 @@ pub mod LedgerLaw
 pub mod Amounts
 pub mod Books
 pub mod TotalLaw
+pub mod KeptLaw
 pub mod Limits
 pub mod WorldLaw

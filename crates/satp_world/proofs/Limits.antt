@@ -36,6 +36,9 @@ use Rattle.satp_base.proofs.TaleTable.{tale-short}
 use Rattle.satp_sides.proofs.Chained.{message-of}
 use Rattle.satp_world.proofs.PairLaw.{role-is}
 use Rattle.satp_sides.proofs.Records.{chain-none, view-none}
+use Rattle.satp_sides.proofs.Bounds.{logs-bounded}
+use Rattle.satp_sides.proofs.SaidLaw.{last-of}
+use Rattle.satp_world.proofs.KeptLaw.{logs-kept}
 use Rattle.satp_world.proofs.WorldLaw.{law_safety}
 use Rattle.satp_base.proofs.SignatureLemmas.{own_shows}
 use Rattle.satp_sides.specs.Logs.{IsNote}
@@ -84,10 +87,6 @@ from-here st g s role n (inr h) p = ap (name_of s (recipient_at (party_at st g) 
 to-there : (st : Setting) (g : Gateway) (s : SessionId) (role : Role) (n : ℕ) → WhoseRole st g s role → role_at n ≡ role → name_of s (recipient_at (party_at st g) role) (other (role_at n)) ≡ name_at st (opposite g)
 to-there st g s role n (inl h) p = ap (λ r. name_of s (recipient_at (party_at st g) role) (other r)) (p ∙ h.0) ∙ ap (recipient_at (party_at st g)) h.0
 to-there st g s role n (inr h) p = ap (λ r. name_of s (recipient_at (party_at st g) role) (other r)) (p ∙ h.0) ∙ h.1
-
--- the last texts, by how many they are
-last-of : (n : ℕ) (texts : List Text) → last_texts n texts ≡ last_texts (length (last_texts n texts)) texts
-last-of n texts = let h = length-drop (length texts - n) texts in let same : length texts - n ≡ length texts - length (last_texts n texts) = omega (arith, h) in ap (λ k. drop k texts) same
 
 said-one : (st : Setting) (a b : Founding) (w : World) → Reached st a b w → (g : Gateway) (t : Text) → Sayable (party_at st g) (side_at w g).records w.bag t → IsOneOf st w g t
 said-one st a b w r g t (Own_text s v n _ e d p) =
@@ -149,71 +148,6 @@ nothing-first st g _ (Updates s v n e c f) = absurd (cc e)
 nothing-first st g _ (Succeeds s v e f) = absurd (cc e)
 nothing-first st g _ (Knows_none m n l p e f q i k z) = elim k [ ]
 
--- ---- begun sessions
-
-begun-more : (role : Role) (xs : List Stored) (x : Stored) → begun role (xs ++ x ∷ []) ≡ length (filter (λ (y : Stored). began_as role y.rec) xs ++ cond (began_as role x.rec) (x ∷ []) [])
-begun-more role xs x = ap length (filter-append (λ y. began_as role y.rec) xs (x ∷ []))
-
-not-begun : (role : Role) (xs : List Stored) (x : Stored) → began_as role x.rec ≡ false → begun role (xs ++ x ∷ []) ≡ begun role xs
-not-begun role xs x n = begun-more role xs x ∙ ap (λ b. length (filter (λ (y : Stored). began_as role y.rec) xs ++ cond b (x ∷ []) [])) n ∙ ap length (append-nil (filter (λ (y : Stored). began_as role y.rec) xs))
-
-one-begun : (role : Role) (xs : List Stored) (x : Stored) → begun role (xs ++ x ∷ []) ≤ begun role xs + 1
-one-begun role xs x = go (began_as role x.rec) refl
-  where
-    go : (b : Bool) → began_as role x.rec ≡ b → begun role (xs ++ x ∷ []) ≤ begun role xs + 1
-    go false n = let h = not-begun role xs x n in omega (arith, h)
-    go true y =
-        let h = begun-more role xs x ∙ ap (λ b. length (filter (λ (y : Stored). began_as role y.rec) xs ++ cond b (x ∷ []) [])) y in
-        let p = length_push (filter (λ (y : Stored). began_as role y.rec) xs) x in
-        omega (arith, h, p)
-
-abbrev Bounded : Side → Type 0
-Bounded side = (role : Role) → begun role side.records ≤ most_sessions
-
-bounded-begun : (side : Side) (mine : Role) (x : Stored) → Bounded side → (began_as (other mine) x.rec ≡ false) → begun mine side.records < most_sessions → (role : Role) → begun role (side.records ++ x ∷ []) ≤ most_sessions
-bounded-begun side Origin x old n room Origin = let h = one-begun Origin side.records x in omega (arith, h, room)
-bounded-begun side Origin x old n room Recipient = let h = not-begun Recipient side.records x n in let k = old Recipient in omega (arith, h, k)
-bounded-begun side Recipient x old n room Recipient = let h = one-begun Recipient side.records x in omega (arith, h, room)
-bounded-begun side Recipient x old n room Origin = let h = not-begun Origin side.records x n in let k = old Origin in omega (arith, h, k)
-
-bounded-else : (side : Side) (x : Stored) → Bounded side → ((role : Role) → began_as role x.rec ≡ false) → (role : Role) → begun role (side.records ++ x ∷ []) ≤ most_sessions
-bounded-else side x old n role = let h = not-begun role side.records x (n role) in let k = old role in omega (arith, h, k)
-
-note-begins-not : (r : Rec) → IsNote r → (role : Role) → began_as role r ≡ false
-note-begins-not (Began role terms) n q = absurd n
-note-begins-not (Took k) n q = absurd n
-note-begins-not (Made k) n q = absurd n
-note-begins-not (Did op) n Origin = refl
-note-begins-not (Did op) n Recipient = refl
-note-begins-not (Chose way) n Origin = refl
-note-begins-not (Chose way) n Recipient = refl
-note-begins-not Rescue n Origin = refl
-note-begins-not Rescue n Recipient = refl
-
-bounded-record : (p : Party) (side : Side) (x : Stored) → MayCome p side.records x → Bounded side → Bounded (with_record side x.session x.rec x.text)
-bounded-record p side _ (Starts s terms n e c) old = bounded-begun side Origin _ old refl c
-bounded-record p side _ (Accepts s terms n e c) old = bounded-begun side Recipient _ old refl c
-bounded-record p side _ (Takes s v part e rule f) old = bounded-else side _ old (elim [ Origin ↦ refl | Recipient ↦ refl ])
-bounded-record p side _ (Makes s v part e rule f) old = bounded-else side _ old (elim [ Origin ↦ refl | Recipient ↦ refl ])
-bounded-record p side _ (Notes s v r e rule m) old = bounded-else side _ old (note-begins-not r m)
-
-bounded-side : (p : Party) (side : Side) (bag : List Text) (new : Side) (more : List Text) → SideMoves p side bag new more → Bounded side → Bounded new
-bounded-side p side bag _ _ (Moves (Appends x) m) old = bounded-record p side x m.may_come old
-bounded-side p side bag _ _ (Moves (Acts s op terms) m) old = old
-bounded-side p side bag _ _ (Moves (Says u) m) old = old
-bounded-side p side bag _ _ Stops old = old
-
-none-begun : (role : Role) → begun role [] ≤ most_sessions
-none-begun role = omega arith
-
-bounded : (st : Setting) (a b : Founding) (w : World) → Reached st a b w → (g : Gateway) → Bounded (side_at w g)
-bounded st a b _ Begins A = none-begun
-bounded st a b _ Begins B = none-begun
-bounded st a b _ (Goes w v r (By A side bag m)) A = bounded-side (party_at st A) w.a w.bag side bag m (bounded st a b w r A)
-bounded st a b _ (Goes w v r (By A side bag m)) B = bounded st a b w r B
-bounded st a b _ (Goes w v r (By B side bag m)) B = bounded-side (party_at st B) w.b w.bag side bag m (bounded st a b w r B)
-bounded st a b _ (Goes w v r (By B side bag m)) A = bounded st a b w r A
-
 pub law_limits : LawLimits
 law_limits = (λ st a b w r. limited st a b w r, λ st g t z. nothing-first st g t z)
   where
@@ -223,5 +157,5 @@ law_limits = (λ st a b w r. limited st a b w r, λ st g t z. nothing-first st g
       no_forgery = λ t g s h n previous part f e not d. not ((law_safety st a b w r).bag t d g s h n previous part f e);
       no_other_text = said-one st a b w r;
       no_idle_answer = λ g s none z. asked-by st a b w r g s _ none refl z;
-      no_more_sessions = bounded st a b w r;
+      no_more_sessions = λ g. logs-bounded (party_at st g) (side_at w g).records (logs-kept st a b w r g);
     }

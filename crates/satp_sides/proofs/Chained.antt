@@ -1,4 +1,4 @@
--- The chains of both sides of a session: texts of parts, of which one list is the other or longer by one.
+-- The chain of one side of a session: texts of parts.
 use Rattle.std.proofs.Common.{◌≡◌, ℕ, zero, suc, ◌+◌, ◌≤◌, List, [], ◌∷◌, ◌++◌, map, length, Option, Some, None, refl, sym, ap, subst, ◌∙◌, arith, inl, inr}
 use Rattle.std.specs.Prelude.{slice_get}
 use Rattle.std.specs.List.{AllByRecursion}
@@ -21,37 +21,22 @@ use Rattle.satp_base.specs.Chains.{last_link, link_of, message_at, next_text, ro
 use Rattle.satp_base.specs.Tales.{other}
 use Rattle.satp_base.proofs.ChainLemmas.{length-texts, link_at_formed, link_formed, texts_appended, zero_formed}
 use Rattle.satp_base.proofs.SignatureLemmas.{own_shows}
-use Rattle.satp_world.specs.Sessions.{tale_of}
-use Rattle.satp_world.specs.Worlds.{Side, chain_in, view_in}
-use Rattle.satp_world.proofs.Records.{get-old, get-new, get-split, get-bound}
-
--- one list of parts is the other, or longer by one, which is then of the side whose place it is
-pub data TiedParts (role : Role) (mine peer : List Part) : Type 0 where
-  Same : mine ≡ peer → TiedParts role mine peer
-  Mine_ahead : (p : Part) → role_at (length peer + 1) ≡ role → mine ≡ peer ++ p ∷ [] → TiedParts role mine peer
-  Peer_ahead : (p : Part) → role_at (length mine + 1) ≡ other role → peer ≡ mine ++ p ∷ [] → TiedParts role mine peer
-
-twice : (role : Role) → role ≡ other (other role)
-twice Origin = refl
-twice Recipient = refl
-
-pub flip-tied : (role : Role) (mine peer : List Part) → TiedParts role mine peer → TiedParts (other role) peer mine
-flip-tied role mine peer (Same e) = Same (sym e)
-flip-tied role mine peer (Mine_ahead p r e) = Peer_ahead p (r ∙ twice role) e
-flip-tied role mine peer (Peer_ahead p r e) = Mine_ahead p r e
+use Rattle.satp_sides.specs.Points.{tale_of, Side, chain_in, view_in}
+use Rattle.satp_sides.specs.Points.{Stored, chain_in, tale_of, view_in}
+use Rattle.satp_sides.proofs.Records.{get-new}
 
 -- what one side's chain and tale of a session are, by its parts
-pub record HalfChain (s : SessionId) (recipient : Name) (key : List ℕ) (side : Side) (parts : List Part) : Type 0 where
-  pub chain : chain_in s side.records ≡ texts_of s recipient key parts
-  pub tale : tale_of (view_in s side.records) ≡ map part_kind parts
+pub record HalfChain (s : SessionId) (recipient : Name) (key : List ℕ) (xs : List Stored) (parts : List Part) : Type 0 where
+  pub chain : chain_in s xs ≡ texts_of s recipient key parts
+  pub tale : tale_of (view_in s xs) ≡ map part_kind parts
   pub formed : AllByRecursion IsPart parts
-  pub headed : (v : View) → view_in s side.records ≡ Some v → (rest : List Part) × (parts ≡ Proposal v.terms ∷ rest)
+  pub headed : (v : View) → view_in s xs ≡ Some v → (rest : List Part) × (parts ≡ Proposal v.terms ∷ rest)
 
 pub formed-more : (parts : List Part) (p : Part) → AllByRecursion IsPart parts → IsPart p → AllByRecursion IsPart (parts ++ p ∷ [])
 formed-more [] p h g = (g, tt)
 formed-more (q ∷ parts) p h g = (h.0, formed-more parts p h.1 g)
 
-formed-last : (parts : List Part) (p : Part) → AllByRecursion IsPart (parts ++ p ∷ []) → IsPart p
+pub formed-last : (parts : List Part) (p : Part) → AllByRecursion IsPart (parts ++ p ∷ []) → IsPart p
 formed-last [] p h = h.0
 formed-last (q ∷ parts) p h = formed-last parts p h.1
 
@@ -87,19 +72,6 @@ module _ (s : SessionId) (recipient : Name) (key : List ℕ) where
       ∙ ap (slice_get (texts_of s recipient key parts ++ next_text s recipient key (texts_of s recipient key parts) p ∷ [])) (sym (long parts))
       ∙ get-new (texts_of s recipient key parts) (next_text s recipient key (texts_of s recipient key parts) p)
 
-  -- A side takes its chain's next text, which stands in the peer's chain: the peer is ahead by that part.
-  pub taken : (role : Role) (mine peer : List Part) (p : Part) → TiedParts role mine peer → IsPart p → AllByRecursion IsPart peer → length mine + 1 ≤ 11
-      → slice_get (texts_of s recipient key peer) (length mine) ≡ Some (next_text s recipient key (texts_of s recipient key mine) p)
-      → peer ≡ mine ++ p ∷ []
-  taken role mine peer p (Same e) f g h k = absurd (let b = get-bound (texts_of s recipient key peer) (length mine) _ k in omega (arith, b, long peer, ap length e))
-  taken role mine peer p (Mine_ahead q r e) f g h k = absurd (let b = get-bound (texts_of s recipient key peer) (length mine) _ k in omega (arith, b, long peer, ap length e, length_push peer q))
-  taken role mine peer p (Peer_ahead q r e) f g h k =
-      let here = sym k ∙ ap (λ ps. slice_get (texts_of s recipient key ps) (length mine)) e ∙ get-next mine q in
-      let same : next_text s recipient key (texts_of s recipient key mine) p ≡ next_text s recipient key (texts_of s recipient key mine) q = cc here in
-      let fq = formed-last mine q (subst (AllByRecursion IsPart) e g) in
-      let one = one-part mine p q (next-formed mine p h f) (next-formed mine q h fq) same in
-      e ∙ ap (λ x. mine ++ x ∷ []) (sym one)
-
   -- ---- the messages of a chain's texts
 
   -- a text of a chain is that of the message of its place
@@ -124,21 +96,3 @@ module _ (s : SessionId) (recipient : Name) (key : List ℕ) where
   message-of parts i t h f e =
       let here : 1 + i ≡ i + 1 = omega arith in
       subst (λ n. HasMessage n t) here (message-from 1 zero_link parts i t (omega arith) (omega arith) zero_formed f e)
-
-  -- a text of one side's chain stands in the chain of the side that made it
-  pub maker-has : (role : Role) (mine peer : List Part) (i : ℕ) (t : List ℕ) → TiedParts role mine peer → role_at (i + 1) ≡ other role → slice_get (texts_of s recipient key mine) i ≡ Some t → slice_get (texts_of s recipient key peer) i ≡ Some t
-  maker-has role mine peer i t (Same e) r h = ap (λ ps. slice_get (texts_of s recipient key ps) i) (sym e) ∙ h
-  maker-has role mine peer i t (Peer_ahead p q e) r h =
-      ap (λ ps. slice_get (texts_of s recipient key ps) i) e
-      ∙ ap (λ ts. slice_get ts i) (texts_appended s recipient key mine p)
-      ∙ get-old (texts_of s recipient key mine) (next_text s recipient key (texts_of s recipient key mine) p ∷ []) i t h
-  maker-has role mine peer i t (Mine_ahead p q e) r h =
-      let more = sym (ap (λ ts. slice_get ts i) (texts_appended s recipient key peer p)) ∙ ap (λ ps. slice_get (texts_of s recipient key ps) i) (sym e) ∙ h in
-      elim (get-split (texts_of s recipient key peer) (next_text s recipient key (texts_of s recipient key peer) p) i t more) [
-        | inl k ↦ k
-        | inr k ↦ absurd (not_other role (sym q ∙ ap (λ n. role_at (n + 1)) (sym (k.0 ∙ long peer)) ∙ r))
-      ]
-    where
-      not_other : (role : Role) → role ≡ other role → ⊥
-      not_other Origin h = cc h
-      not_other Recipient h = cc h

@@ -16,7 +16,7 @@ use Rattle.satp_base.specs.declared.record.Rec.{Rec}
 use Rattle.satp_base.specs.declared.record.Rec.TheVariants.{Began, Took, Made, Did, Chose, Rescue}
 use Rattle.satp_base.specs.declared.view.View.{View}
 use Rattle.satp_base.proofs.SessionLemmas.{exact_sessions, sessions_total}
-use Rattle.satp_world.specs.Worlds.{Stored, chain_in, is_session, records_of, texts_in_record, view_in}
+use Rattle.satp_sides.specs.Points.{Stored, chain_in, is_session, records_of, texts_in_record, view_in}
 
 -- ---- equal sessions
 
@@ -52,7 +52,7 @@ chain-here s xs x h =
     ∙ ap (λ ys. chain_in s xs ++ ys) (append-nil (texts_in_record x))
 
 -- the view behind one record more
-from-more : (v : View) (rs : List Rec) (r : Rec) → view_from v (rs ++ r ∷ []) ≡ push (view_from v rs) r
+pub from-more : (v : View) (rs : List Rec) (r : Rec) → view_from v (rs ++ r ∷ []) ≡ push (view_from v rs) r
 from-more v [] r = refl
 from-more v (q ∷ rs) r = from-more (push v q) rs r
 
@@ -83,6 +83,16 @@ chain-none s xs e = ap (flat_map texts_in_record) e
 
 pub view-none : (s : SessionId) (xs : List Stored) → records_of s xs ≡ [] → view_in s xs ≡ None
 view-none s xs e = ap (λ ys. view_of (map (λ y. y.rec) ys)) e
+
+-- ---- a record more keeps whose view it is, and its terms
+
+pub push-head : (v : View) (r : Rec) → ((push v r).role ≡ v.role) × ((push v r).terms ≡ v.terms)
+push-head v (Began role terms) = (refl, refl)
+push-head v (Took kind) = (refl, refl)
+push-head v (Made kind) = (refl, refl)
+push-head v (Did op) = (refl, refl)
+push-head v (Chose way) = (refl, refl)
+push-head v Rescue = (refl, refl)
 
 -- ---- places in a list
 

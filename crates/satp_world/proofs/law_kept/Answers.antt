@@ -1,0 +1,11 @@
+use Rattle.satp_world.proofs.KeptLaw.{bag-was-said, logs-kept, moves-reach}
+use Rattle.satp_world.proofs.law_kept.Goals as goal
+
+pub returns-clause-logs : goal.returns-clause-logs
+returns-clause-logs c = logs-kept
+
+pub returns-clause-said : goal.returns-clause-said
+returns-clause-said c = bag-was-said
+
+pub returns-clause-moves : goal.returns-clause-moves
+returns-clause-moves c = moves-reach

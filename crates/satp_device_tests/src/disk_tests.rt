@@ -5,7 +5,7 @@ use std::alloc::Global;
 /// The bytes of a read, with zeros after them, and how many they are.
 type Image = ([u8; 8], usize);
 
-/// What calls saw: which succeeded, what they read, the lengths that they answered, and the counts of calls and of wants.
+/// What calls saw: which did what they are named for, what they read, the lengths that they answered, and the counts of calls and of wants.
 #[derive(Clone, Copy, PartialEq, Eq)]
 struct Seen {
     done: [bool; 6],
@@ -56,7 +56,7 @@ const FAILING_CALLS: Seen = Seen {
     counts: [9, 0],
 };
 
-/// A stop and a failure that were cleared before they came, and a stop that is reached, which stays.
+/// A stop and a failure that were cleared before they came, and a stop that is reached, which stays until the restart.
 fn cleared_calls(disk: &mut MemDisk) -> Seen {
     disk.stop_at(1, 0);
     let named = disk.fail(2).is_ok();
@@ -66,8 +66,10 @@ fn cleared_calls(disk: &mut MemDisk) -> Seen {
     disk.stop_at(0, 1);
     disk.clear();
     let stopped = disk.sync(Area::JournalA).is_err();
+    let still = disk.length(Area::JournalA).is_err();
+    let restarted = disk.restart().is_ok();
     Seen {
-        done: [named, written, synced, stopped, true, true],
+        done: [named, written, synced, stopped, still, restarted],
         image: None,
         lengths: [None; 3],
         counts: counts(disk),
@@ -78,7 +80,7 @@ const CLEARED_CALLS: Seen = Seen {
     done: [true; 6],
     image: None,
     lengths: [None; 3],
-    counts: [3, 0],
+    counts: [4, 0],
 };
 
 fn calls_of_a_new_disk(alloc: Global, cleared: bool) -> Option<Seen> {

@@ -26,10 +26,10 @@ pub chain-append : (s : SessionId) (xs ys : List Stored) → chain_in s (xs ++ y
 chain-append s xs ys = ap (flat_map texts_in_record) (filter-append (λ x. is_session s x.session) xs ys) ∙ flat_map-append texts_in_record (records_of s xs) (records_of s ys)
 
 -- the session is still named, in the same role
-record Still (s : SessionId) (xs : List Stored) (v : View) : Type 0 where
-  view : View
-  named : view_in s xs ≡ Some view
-  role : view.role ≡ v.role
+pub record Still (s : SessionId) (xs : List Stored) (v : View) : Type 0 where
+  pub view : View
+  pub named : view_in s xs ≡ Some view
+  pub role : view.role ≡ v.role
 
 one-more : (s : SessionId) (xs : List Stored) (x : Stored) (v : View) → view_in s xs ≡ Some v → Still s (xs ++ x ∷ []) v
 one-more s xs x v e = go (is_session s x.session) refl
@@ -38,7 +38,7 @@ one-more s xs x v e = go (is_session s x.session) refl
     go false n = record { view = v; named = view-apart s xs x n ∙ e; role = refl }
     go true y = record { view = push v x.rec; named = view-here s xs x v y e; role = (push-head v x.rec).0 }
 
-still-named : (s : SessionId) (xs ys : List Stored) (v : View) → view_in s xs ≡ Some v → Still s (xs ++ ys) v
+pub still-named : (s : SessionId) (xs ys : List Stored) (v : View) → view_in s xs ≡ Some v → Still s (xs ++ ys) v
 still-named s xs [] v e = record { view = v; named = ap (view_in s) (append-nil xs) ∙ e; role = refl }
 still-named s xs (y ∷ ys) v e =
     let one = one-more s xs y v e in

@@ -35,7 +35,7 @@ logs-kept st a b _ (Goes w v r (By B side bag m)) B = log-moved (party_at st B) 
 
 -- ---- what was said
 
-more-records : (p : Party) (side : Side) (bag : List Text) (new : Side) (more : List Text) → SideMoves p side bag new more → (ys : List Stored) × (new.records ≡ side.records ++ ys)
+pub more-records : (p : Party) (side : Side) (bag : List Text) (new : Side) (more : List Text) → SideMoves p side bag new more → (ys : List Stored) × (new.records ≡ side.records ++ ys)
 more-records p side bag _ _ (Moves (Appends x) m) = (x ∷ [], refl)
 more-records p side bag _ _ (Moves (Acts s op terms) m) = ([], sym (append-nil side.records))
 more-records p side bag _ _ (Moves (Says t) m) = ([], sym (append-nil side.records))

@@ -27,4 +27,6 @@ pub mod Books
 pub mod TotalLaw
 pub mod KeptLaw
 pub mod Limits
+pub mod SenderLaw
+pub mod RoomLaw
 pub mod WorldLaw

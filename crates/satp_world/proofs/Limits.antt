@@ -42,7 +42,8 @@ use Rattle.satp_world.proofs.KeptLaw.{logs-kept}
 use Rattle.satp_world.proofs.WorldLaw.{law_safety}
 use Rattle.satp_base.proofs.SignatureLemmas.{own_shows}
 use Rattle.satp_sides.specs.Logs.{IsNote}
-use Rattle.satp_sides.specs.Moves.{Sayable, SideMoves, last_texts, message_from}
+use Rattle.satp_base.specs.declared.message.Link.{Link}
+use Rattle.satp_sides.specs.Moves.{Among, Sayable, SideMoves, last_texts, message_from}
 use Rattle.satp_sides.specs.Points.{Party, with_record, tale_of, Side, Stored, Text, begun, began_as, chain_in, most_sessions, recipient_at, records_of, view_in}
 
 -- ---- no early burn
@@ -88,7 +89,7 @@ to-there : (st : Setting) (g : Gateway) (s : SessionId) (role : Role) (n : ℕ) 
 to-there st g s role n (inl h) p = ap (λ r. name_of s (recipient_at (party_at st g) role) (other r)) (p ∙ h.0) ∙ ap (recipient_at (party_at st g)) h.0
 to-there st g s role n (inr h) p = ap (λ r. name_of s (recipient_at (party_at st g) role) (other r)) (p ∙ h.0) ∙ h.1
 
-said-one : (st : Setting) (a b : Founding) (w : World) → Reached st a b w → (g : Gateway) (t : Text) → Sayable (party_at st g) (side_at w g).records w.bag t → IsOneOf st w g t
+pub said-one : (st : Setting) (a b : Founding) (w : World) → Reached st a b w → (g : Gateway) (t : Text) → Sayable (party_at st g) (side_at w g).records w.bag t → IsOneOf st w g t
 said-one st a b w r g t (Own_text s v n _ e d p) =
     let k = law_safety st a b w r in
     let c = k.chains g s v e in
@@ -109,6 +110,19 @@ said-one st a b w r g _ (Succeeds s v e f) = record { message = message_from (pa
 said-one st a b w r g _ (Knows_none m n l p e f q i k z) =
     let none = sym (chain-none m.session (side_at w g).records e) in
     record { message = message_from (party_at st g) m.session (body.Update 0 []); formed = z; text = refl; sender = refl; receiver = refl; says = (ap length none, ap (last_texts 0) none) }
+
+-- the session of what is said is one that the records name, or the peer asked for it
+pub data IsSaidOf (st : Setting) (w : World) (g : Gateway) (t : Text) (m : Message) : Type 0 where
+  Named : (v : View) → view_in m.session (side_at w g).records ≡ Some v → IsSaidOf st w g t m
+  Asked : (asked : Message) (n : ℕ) (last : Link) → IsMessage asked → asked.session ≡ m.session → asked.receiver ≡ name_at st g → asked.body ≡ body.Recover n last → Among (own st.key asked) w.bag → m.body ≡ body.Update 0 [] → IsSaidOf st w g t m
+
+pub said-of-session : (st : Setting) (a b : Founding) (w : World) (r : Reached st a b w) (g : Gateway) (t : Text) (z : Sayable (party_at st g) (side_at w g).records w.bag t) → IsSaidOf st w g t (said-one st a b w r g t z).message
+unfolding said-one
+said-of-session st a b w r g t (Own_text s v n _ e d p) = Named v e
+said-of-session st a b w r g _ (Recovers s v e f) = Named v e
+said-of-session st a b w r g _ (Updates s v n e c f) = Named v e
+said-of-session st a b w r g _ (Succeeds s v e f) = Named v e
+said-of-session st a b w r g _ (Knows_none m n l p e f q i k z) = Asked m n l f refl q i k refl
 
 idle : (st : Setting) (g : Gateway) (s : SessionId) → IsMessage (message_from (party_at st g) s (body.Update 0 []))
 idle st g s = ((omega arith, refl), tt)

@@ -5,6 +5,7 @@ mod areas;
 mod calls;
 mod copy;
 mod disk;
+mod note;
 mod operate;
 mod pick;
 mod sink;

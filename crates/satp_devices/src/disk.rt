@@ -80,6 +80,10 @@ impl<R: Files<File = File> + Copy> Device for FileDisk<R> {
     ghost faults = { λ d. d.faults };
 
     ghost keeps_model = { λ d t is. untold_keeps t is };
+
+    ghost beside_same = { λ _. tt };
+
+    ghost beside_then = { λ _ _ _ _ _. tt };
 }
 
 impl<R: Files<File = File> + Copy> Disk for FileDisk<R> {

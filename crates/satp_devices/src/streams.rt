@@ -95,11 +95,9 @@ impl<W: Write + Drop> Sink for Output<W> {
         ensures some { IfOk result (λ n. 0 < length piece.now → 0 < n) }
         ensures writer { WriteAppends (W.contents self.old.writer) (W.contents self.new.writer) result piece.now }
     {
+        self.has_failed = false;
         match self.writer.write(piece) {
-            Ok(count) if count > 0 || piece.is_empty() => {
-                self.has_failed = false;
-                Ok(count)
-            }
+            Ok(count) if count > 0 || piece.is_empty() => Ok(count),
             _ => {
                 self.has_failed = true;
                 self.faults = self.faults.saturating_add(1);

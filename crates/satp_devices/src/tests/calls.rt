@@ -16,10 +16,10 @@ pub fn enter<R: Files<File = File> + Copy>(
     disk.enter(dir)
 }
 
-pub fn beside<R: Files<File = File> + Copy>(
+pub fn second<R: Files<File = File> + Copy>(
     disk: &mut FileDisk<R>,
 ) -> Result<FileDisk<R>, DiskFault> {
-    disk.beside()
+    disk.second()
 }
 
 pub fn length<R: Files<File = File> + Copy>(

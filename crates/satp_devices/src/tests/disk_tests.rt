@@ -1,6 +1,6 @@
 //! Each test makes its disks and hands them on: a disk that a function drops weighs at each of that function's exits.
 
-use super::calls::{A, B, beside, cut, enter, failing, holds, length, read_four, sync, write};
+use super::calls::{A, B, cut, enter, failing, holds, length, read_four, second, sync, write};
 use crate::FileDisk;
 use satp_base::Area;
 use std::fs::{self, File, Files};
@@ -177,20 +177,20 @@ fn gives_back<R: Files<File = File> + Copy, H: Files + AllocGlobal + Abort>(
 }
 
 #[test]
-fn a_disk_beside_another_shares_its_lock(rt: HostRuntime) -> Result<(), Fail> {
-    let _ = fs::remove_dir_all(&rt, "devices_beside");
+fn a_second_disk_shares_the_lock(rt: HostRuntime) -> Result<(), Fail> {
+    let _ = fs::remove_dir_all(&rt, "devices_second");
     let mut disk = FileDisk::new(&rt, rt.alloc());
-    assert!(rt; has_none_beside(&mut disk));
-    let mut second = enter_twice(&mut disk, b"devices_beside")?;
+    assert!(rt; has_no_second(&mut disk));
+    let mut second = enter_twice(&mut disk, b"devices_second")?;
     share(&rt, &mut disk, &mut second)?;
     drop(second);
-    assert!(rt; is_locked(&rt, b"devices_beside"));
-    fs::remove_dir_all(&rt, "devices_beside")?;
+    assert!(rt; is_locked(&rt, b"devices_second"));
+    fs::remove_dir_all(&rt, "devices_second")?;
     Ok(())
 }
 
-fn has_none_beside<R: Files<File = File> + Copy>(disk: &mut FileDisk<R>) -> bool {
-    beside(disk).is_err()
+fn has_no_second<R: Files<File = File> + Copy>(disk: &mut FileDisk<R>) -> bool {
+    second(disk).is_err()
 }
 
 fn enter_twice<R: Files<File = File> + Copy>(
@@ -198,7 +198,7 @@ fn enter_twice<R: Files<File = File> + Copy>(
     dir: &[u8],
 ) -> Result<FileDisk<R>, Fail> {
     enter(disk, dir)?;
-    Ok(beside(disk)?)
+    Ok(second(disk)?)
 }
 
 fn share<R: Files<File = File> + Copy, H: Files + AllocGlobal + Abort>(

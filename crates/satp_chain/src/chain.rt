@@ -5,10 +5,6 @@ ghost use Rattle.satp_base.specs.Forms.{IsFormed};
 ghost use Rattle.satp_base.specs.Signatures.{own};
 
 use crate::signed::{Signed, Verdict};
-
-#[cfg(test)]
-mod tests;
-
 use satp_base::{Body, Head, Kind, Link, Memory, Message, Name, Part, Role, SessionId, Tale, Text};
 use satp_canon::{link_of, write};
 use satp_jws::{Key, sign};

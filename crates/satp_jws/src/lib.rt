@@ -8,8 +8,6 @@ mod hmac;
 mod key;
 mod parts;
 mod signing;
-#[cfg(test)]
-mod tests;
 mod verifying;
 
 pub use fault::{JwsFault, KeyFault};

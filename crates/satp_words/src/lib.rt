@@ -7,8 +7,6 @@ mod keys;
 mod laws;
 mod options;
 mod reader;
-#[cfg(test)]
-mod tests;
 mod values;
 
 pub use command::{Command, WordsFault};

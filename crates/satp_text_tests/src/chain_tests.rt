@@ -16,21 +16,21 @@ const ALPHA: &[u8] = b"alpha";
 
 const BETA: &[u8] = b"beta";
 
-/// A chain, and the session that it is of.
+/// A chain that is tested, and its session.
 #[derive(Drop)]
-struct Talk {
+struct ChainUnderTest {
     session: SessionId,
     chain: Chain,
     ghost same: { chain.session ≡ session },
 }
 
-impl Talk {
-    fn new(alloc: Global) -> Option<Talk> {
+impl ChainUnderTest {
+    fn new(alloc: Global) -> Option<ChainUnderTest> {
         let gateway = Name::read(ALPHA).ok()?;
         let recipient = Name::read(BETA).ok()?;
         let session = SessionId { gateway, number: 1 };
         let chain = Chain::new(alloc, session, recipient).ok()?;
-        Some(Talk { session, chain })
+        Some(ChainUnderTest { session, chain })
     }
 
     /// What the chain says of a message; nothing where `check` takes none such.
@@ -111,7 +111,7 @@ struct Strange {
 }
 
 /// What the chain says of such a message.
-fn says_of(alloc: Global, talk: &Talk, strange: Strange) -> Option<Verdict> {
+fn says_of(alloc: Global, tested: &ChainUnderTest, strange: Strange) -> Option<Verdict> {
     let sender = Name::read(strange.sender).ok()?;
     let text = Text::copy(alloc, b"another text").ok()?;
     let body = Body::Chain {
@@ -120,30 +120,30 @@ fn says_of(alloc: Global, talk: &Talk, strange: Strange) -> Option<Verdict> {
         part: Part::Plain(strange.kind),
     };
     let message = Message {
-        session: talk.session,
+        session: tested.session,
         sender,
         receiver: sender,
         body,
     };
-    talk.says(&Signed { message, text })
+    tested.says(&Signed { message, text })
 }
 
 /// The link of the text at a place, zeros where none stands there.
-fn link(talk: &Talk, place: u8) -> Link {
-    match talk.chain.entry(place) {
+fn link(tested: &ChainUnderTest, place: u8) -> Link {
+    match tested.chain.entry(place) {
         Some(signed) => link_of(signed.text.bytes()),
         None => Link([0; 32]),
     }
 }
 
 /// Of a place that the chain has: its own text, another one, and one of the other side.
-fn says_of_kept(alloc: Global, talk: &Talk, place: u8) -> Option<[Option<Verdict>; 3]> {
+fn says_of_kept(alloc: Global, tested: &ChainUnderTest, place: u8) -> Option<[Option<Verdict>; 3]> {
     let (maker, taker) = sides(place);
-    let kept = talk.chain.entry(place)?;
+    let kept = tested.chain.entry(place)?;
     let strange = Strange {
         sender: maker,
         place,
-        previous: link(talk, place),
+        previous: link(tested, place),
         kind: Kind::LockAssert,
     };
     let other_side = Strange {
@@ -151,28 +151,33 @@ fn says_of_kept(alloc: Global, talk: &Talk, place: u8) -> Option<[Option<Verdict
         ..strange
     };
     Some([
-        talk.says(kept),
-        says_of(alloc, talk, strange),
-        says_of(alloc, talk, other_side),
+        tested.says(kept),
+        says_of(alloc, tested, strange),
+        says_of(alloc, tested, other_side),
     ])
 }
 
 /// A whole chain looks at its last two texts alone.
-fn is_kept_as_wanted(alloc: Global, talk: &Talk, place: u8, is_whole: bool) -> bool {
-    let length = talk.chain.head().length;
+fn is_kept_as_wanted(alloc: Global, tested: &ChainUnderTest, place: u8, is_whole: bool) -> bool {
+    let length = tested.chain.head().length;
     let again = Some(Verdict::Again { place });
     let other = if is_whole && place < length.saturating_sub(1) {
         again
     } else {
-        let kept = link(talk, place);
+        let kept = link(tested, place);
         Some(Verdict::Other { place, kept })
     };
     let wanted = [again, other, Some(Verdict::WrongSender)];
-    says_of_kept(alloc, talk, place) == Some(wanted)
+    says_of_kept(alloc, tested, place) == Some(wanted)
 }
 
 /// Of a place that the chain doesn't have: a kind that never stands there, a foreign link, and the other side.
-fn says_of_new(alloc: Global, talk: &Talk, place: u8, last: Link) -> [Option<Verdict>; 3] {
+fn says_of_new(
+    alloc: Global,
+    tested: &ChainUnderTest,
+    place: u8,
+    last: Link,
+) -> [Option<Verdict>; 3] {
     let (maker, taker) = sides(place);
     let off_tale = Strange {
         sender: maker,
@@ -193,15 +198,15 @@ fn says_of_new(alloc: Global, talk: &Talk, place: u8, last: Link) -> [Option<Ver
         ..foreign
     };
     [
-        says_of(alloc, talk, off_tale),
-        says_of(alloc, talk, foreign),
-        says_of(alloc, talk, other_side),
+        says_of(alloc, tested, off_tale),
+        says_of(alloc, tested, foreign),
+        says_of(alloc, tested, other_side),
     ]
 }
 
-fn is_new_as_wanted(alloc: Global, talk: &Talk, place: u8) -> bool {
-    let length = talk.chain.head().length;
-    let kept = link(talk, length);
+fn is_new_as_wanted(alloc: Global, tested: &ChainUnderTest, place: u8) -> bool {
+    let length = tested.chain.head().length;
+    let kept = link(tested, length);
     let gap = Verdict::Gap { length };
     let (off_tale, foreign) = if place == length.saturating_add(1) {
         (Verdict::OffTale { place }, Verdict::WrongPrevious { kept })
@@ -209,17 +214,17 @@ fn is_new_as_wanted(alloc: Global, talk: &Talk, place: u8) -> bool {
         (gap, gap)
     };
     let wanted = [Some(off_tale), Some(foreign), Some(Verdict::WrongSender)];
-    says_of_new(alloc, talk, place, kept) == wanted
+    says_of_new(alloc, tested, place, kept) == wanted
 }
 
 /// The first place of which the chain says something else.
-fn first_other_place(alloc: Global, talk: &Talk, is_whole: bool) -> Option<u8> {
-    let length = talk.chain.head().length;
+fn first_other_place(alloc: Global, tested: &ChainUnderTest, is_whole: bool) -> Option<u8> {
+    let length = tested.chain.head().length;
     for place in 1..=11 {
         let is_as_wanted = if place <= length {
-            is_kept_as_wanted(alloc, talk, place, is_whole)
+            is_kept_as_wanted(alloc, tested, place, is_whole)
         } else {
-            is_new_as_wanted(alloc, talk, place)
+            is_new_as_wanted(alloc, tested, place)
         };
         if !is_as_wanted {
             return Some(place);
@@ -240,9 +245,9 @@ fn terms() -> Option<Terms> {
 }
 
 /// Adds the proposal.
-fn propose(alloc: Global, talk: &mut Talk, key: &Key) -> bool {
+fn propose(alloc: Global, tested: &mut ChainUnderTest, key: &Key) -> bool {
     match terms() {
-        Some(terms) => talk.grow(alloc, key, Part::Proposal(terms)),
+        Some(terms) => tested.grow(alloc, key, Part::Proposal(terms)),
         None => false,
     }
 }
@@ -291,12 +296,12 @@ fn turn(messages: usize) -> Role {
 }
 
 /// How many of the kinds come before the first after which the chain says something else of a place.
-fn count_told(alloc: Global, talk: &mut Talk, key: &Key, kinds: &[Kind]) -> usize {
+fn count_told(alloc: Global, tested: &mut ChainUnderTest, key: &Key, kinds: &[Kind]) -> usize {
     for (index, kind) in kinds.iter().enumerate() {
         let is_whole = index == kinds.len().saturating_sub(1);
-        if talk.chain.turn() != Some(turn(index))
-            || !talk.grow(alloc, key, part_of(*kind))
-            || first_other_place(alloc, talk, is_whole).is_some()
+        if tested.chain.turn() != Some(turn(index))
+            || !tested.grow(alloc, key, part_of(*kind))
+            || first_other_place(alloc, tested, is_whole).is_some()
         {
             return index;
         }
@@ -305,20 +310,20 @@ fn count_told(alloc: Global, talk: &mut Talk, key: &Key, kinds: &[Kind]) -> usiz
 }
 
 /// How long the chain of a form becomes, told at every length.
-fn told(alloc: Global, talk: &mut Talk, key: &Key, kinds: &[Kind]) -> Option<usize> {
-    if !propose(alloc, talk, key) || first_other_place(alloc, talk, false).is_some() {
+fn told(alloc: Global, tested: &mut ChainUnderTest, key: &Key, kinds: &[Kind]) -> Option<usize> {
+    if !propose(alloc, tested, key) || first_other_place(alloc, tested, false).is_some() {
         return None;
     }
-    let count = count_told(alloc, talk, key, kinds);
-    let length = talk.chain.head().length;
-    let is_over = talk.chain.turn().is_none();
-    let is_last = talk.chain.entry(length.saturating_add(1)).is_none();
+    let count = count_told(alloc, tested, key, kinds);
+    let length = tested.chain.head().length;
+    let is_over = tested.chain.turn().is_none();
+    let is_last = tested.chain.entry(length.saturating_add(1)).is_none();
     (count == kinds.len() && is_over && is_last).then_some(length as usize)
 }
 
 fn length_of(alloc: Global, kinds: &[Kind]) -> Option<usize> {
-    match (Talk::new(alloc), Key::new(&[7; 32])) {
-        (Some(mut talk), Ok(key)) => told(alloc, &mut talk, &key, kinds),
+    match (ChainUnderTest::new(alloc), Key::new(&[7; 32])) {
+        (Some(mut tested), Ok(key)) => told(alloc, &mut tested, &key, kinds),
         _ => None,
     }
 }
@@ -359,9 +364,9 @@ fn composes_on(alloc: Global, chain: &mut Chain, key: &Key) -> bool {
 }
 
 fn composes_on_proposal(alloc: Global, key: &Key) -> bool {
-    match Talk::new(alloc) {
-        Some(mut talk) => propose(alloc, &mut talk, key)
-            && composes_on(alloc, &mut talk.chain, key),
+    match ChainUnderTest::new(alloc) {
+        Some(mut tested) => propose(alloc, &mut tested, key)
+            && composes_on(alloc, &mut tested.chain, key),
         None => false,
     }
 }

@@ -1,6 +1,6 @@
 use Rattle.std.proofs.Common.{sym, ◌∙◌}
 use Rattle.satp_base.proofs.Equalities.{eq_session}
-use Rattle.satp_text_tests.proofs.chain_tests.Talk.says.Goals as goal
+use Rattle.satp_text_tests.proofs.chain_tests.ChainUnderTest.says.Goals as goal
 
 pub check-requires : goal.check-requires
 check-requires c = record {

@@ -3,8 +3,6 @@
 
 mod entries;
 mod fault;
-#[cfg(test)]
-mod kind_tests;
 mod laws;
 mod link;
 mod members;
@@ -12,8 +10,6 @@ mod messages;
 mod names;
 mod reader;
 mod row;
-#[cfg(test)]
-mod tests;
 mod values;
 mod writer;
 

@@ -5,10 +5,6 @@ ghost use Rattle.satp_base.specs.Forms.{IsFormed};
 ghost use Rattle.satp_base.specs.Signatures.{own};
 
 use crate::signed::Signed;
-
-#[cfg(test)]
-mod tests;
-
 use satp_base::{
     Body, Head, Kind, Link, Memory, Message, Name, Part, Role, SessionId, Tale, Text, Verdict,
 };

@@ -9,8 +9,6 @@ mod key;
 mod laws;
 mod parts;
 mod signing;
-#[cfg(test)]
-mod tests;
 mod verifying;
 
 pub use fault::{JwsFault, KeyFault};

@@ -7,8 +7,6 @@ mod field;
 mod laws;
 mod reading;
 mod stored;
-#[cfg(test)]
-mod tests;
 mod writing;
 
 pub use fault::RecordFault;

@@ -6,8 +6,6 @@ mod generator;
 mod line;
 mod parse;
 mod schedule;
-#[cfg(test)]
-mod tests;
 mod values;
 mod verb;
 

@@ -8,8 +8,6 @@ mod keys;
 mod laws;
 mod options;
 mod reader;
-#[cfg(test)]
-mod tests;
 mod values;
 
 pub use arguments::words_of;

@@ -1,5 +1,0 @@
-use Rattle.satp_base.proofs.Equalities.{equal_names}
-use Rattle.satp_vectors.proofs.value_tests.same_names.Goals as goal
-
-pub returns : goal.returns
-returns c = equal_names c.args.a c.args.b c.eq.result c.eq.ensures

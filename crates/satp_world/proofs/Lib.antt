@@ -6,6 +6,7 @@ pub mod HalfCheck
 pub mod HalfComplete
 pub mod HalfSound
 pub mod DealSteps
+pub mod DealLaw
 pub mod StepLaw
 pub mod SessionLaw
 pub mod Safety

@@ -3,13 +3,20 @@
 //! The laws of this crate stand over definitions alone. They make no call: what each says is its contract.
 #![tactic(auto)]
 
+ghost use Rattle.satp_world.specs.Deal.{LawDeals};
 ghost use Rattle.satp_world.specs.Sessions.{LawSessions, LawStep};
 ghost use Rattle.satp_world.specs.Worlds.{LawSafety};
 ghost use Rattle.satp_world.specs.Examples.{LawEndings};
-ghost use Rattle.satp_world.specs.Ledgers.{AgreedIsAnswered, RuleAgrees};
+ghost use Rattle.satp_world.specs.Ledgers.{AfterFits, AgreedIsAnswered, RuleAgrees};
 ghost use Rattle.satp_world.specs.Kept.{BagWasSaid, LogsAreKept, MovesReach, RoomLeft, SaidIsShort, SenderKnows};
 ghost use Rattle.satp_world.specs.Limits.{LawLimits};
 ghost use Rattle.satp_world.specs.Totals.{LawTotal};
+
+/// The deals that steps of the machine lead to from the first one are those of a list, and no other. Six steps lead to
+/// each of them.
+pub fn law_deals()
+    ensures { LawDeals }
+{}
 
 /// From every state of a session in which the joint invariant holds, each move of either side keeps it, and is a step
 /// of the deal machine or leaves the deal as it is. Ledgers may answer as their amounts allow.
@@ -18,10 +25,12 @@ pub fn law_step()
 {}
 
 /// The moves of one session see no amounts. What a ledger answers by its rule is an answer that they allow, with the
-/// entries that it finds and leaves, and every answer that they allow is given by some ledger.
+/// entries that it finds and leaves, and every answer that they allow is given by some ledger. The record after an answer
+/// fits the ledger as the operation left it.
 pub fn law_ledgers()
     ensures rule { RuleAgrees }
     ensures answered { AgreedIsAnswered }
+    ensures fits { AfterFits }
 {}
 
 /// In every state that moves of both sides lead to, the asset is never free on both ledgers, a burnt entry has its

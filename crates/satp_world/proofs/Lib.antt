@@ -26,6 +26,7 @@ pub mod LedgerLaw
 pub mod Amounts
 pub mod Books
 pub mod TotalLaw
+pub mod StandLaw
 pub mod KeptLaw
 pub mod Limits
 pub mod SenderLaw

@@ -47,6 +47,13 @@ pub record StepsOfADeal : Type 0 where
   pub no_release_behind_a_commit : ¬ DealStep committed Origin (record committed { a = Released })
   pub no_recipients_back_behind_ready : ¬ DealStep is_ready Recipient (record is_ready { v = Decision.Back })
   pub no_lock_by_the_recipient : ¬ DealStep untouched Recipient locked
+  pub no_origins_back_after_commit : ¬ DealStep committed Origin (record committed { v = Decision.Back })
+  pub no_mint_before_the_lock : ¬ DealStep untouched Recipient (record untouched { b = Minted })
+  pub no_readiness_before_the_mint : ¬ DealStep locked Recipient (record locked { ready = true })
+  pub no_burn_of_what_is_not_locked : ¬ DealStep (record committed { a = Absent }) Origin (record committed { a = Burnt })
+  pub no_assignment_of_what_is_not_minted : ¬ DealStep (record burnt { b = Absent }) Recipient (record burnt { b = Assigned })
+  pub no_recipients_release_without_back : ¬ DealStep minted Recipient (record minted { b = Released })
+  pub no_lock_after_commit : ¬ DealStep (record committed { a = Absent }) Origin committed
 
 -- ---- sessions
 

@@ -25,13 +25,6 @@ use Rattle.satp_sides.specs.Points.{tale_of, Side, chain_in, view_in}
 use Rattle.satp_sides.specs.Points.{Stored, chain_in, tale_of, view_in}
 use Rattle.satp_sides.proofs.Records.{get-new}
 
--- what one side's chain and tale of a session are, by its parts
-pub record HalfChain (s : SessionId) (recipient : Name) (key : List ℕ) (xs : List Stored) (parts : List Part) : Type 0 where
-  pub chain : chain_in s xs ≡ texts_of s recipient key parts
-  pub tale : tale_of (view_in s xs) ≡ map part_kind parts
-  pub formed : AllByRecursion IsPart parts
-  pub headed : (v : View) → view_in s xs ≡ Some v → (rest : List Part) × (parts ≡ Proposal v.terms ∷ rest)
-
 pub formed-more : (parts : List Part) (p : Part) → AllByRecursion IsPart parts → IsPart p → AllByRecursion IsPart (parts ++ p ∷ [])
 formed-more [] p h g = (g, tt)
 formed-more (q ∷ parts) p h g = (h.0, formed-more parts p h.1 g)

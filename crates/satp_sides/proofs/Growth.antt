@@ -19,7 +19,8 @@ use Rattle.satp_base.proofs.ChainLemmas.{texts_appended}
 use Rattle.satp_sides.specs.Logs.{IsNote}
 use Rattle.satp_sides.specs.Points.{Stored, chain_in, is_session, records_of, stored, tale_of, view_in}
 use Rattle.satp_sides.proofs.Records.{push-head, session-self, view-here, chain-here, view-first, chain-none, view-apart, chain-apart}
-use Rattle.satp_sides.proofs.Chained.{HalfChain, formed-more}
+use Rattle.satp_sides.specs.LogLaws.{HalfChain}
+use Rattle.satp_sides.proofs.Chained.{formed-more}
 
 -- the record carries a message of this kind
 pub data Carries (k : Kind) : Rec → Type 0 where

@@ -32,7 +32,8 @@ use Rattle.satp_sides.specs.LogLaws.{HasText, IsChainOf, IsOfRole, IsSessionOf, 
 use Rattle.satp_sides.specs.Logs.{IsLog, IsNote, MayCome}
 use Rattle.satp_sides.specs.Logs.MayCome.{Starts, Accepts, Takes, Makes, Notes}
 use Rattle.satp_sides.specs.Points.{Party, Stored, Text, begun, began_as, chain_in, is_session, most_sessions, recipient_at, records_of, stored, tale_of, view_in}
-use Rattle.satp_sides.proofs.Chained.{HalfChain, long, next-formed}
+use Rattle.satp_sides.specs.LogLaws.{HalfChain}
+use Rattle.satp_sides.proofs.Chained.{long, next-formed}
 use Rattle.satp_sides.proofs.Growth.{Carries, half-apart, half-first, half-more, half-noted}
 use Rattle.satp_sides.proofs.Growth.Carries.{As_made, As_taken}
 use Rattle.satp_sides.proofs.Records.{from-more, is-session, push-head, session-self, view-apart, view-first, view-here, view-none}

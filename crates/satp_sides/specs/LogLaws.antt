@@ -1,8 +1,9 @@
 -- What holds of every log, whoever wrote it.
 use Rattle.std.specs.Prelude.{◌≡◌, ◌≢◌, ℕ, ◌≤◌, List, [], ◌∷◌, ◌++◌, map, Some, IsTrue}
 use Rattle.satp_base.specs.Canonical.{part_kind}
-use Rattle.satp_base.specs.Chains.{ChainOf}
-use Rattle.satp_base.specs.Forms.{is_entry}
+use Rattle.std.specs.List.{AllByRecursion}
+use Rattle.satp_base.specs.Chains.{ChainOf, texts_of}
+use Rattle.satp_base.specs.Forms.{IsPart, is_entry}
 use Rattle.satp_base.specs.Roles.{IsReached}
 use Rattle.satp_base.specs.Tales.{maker}
 use Rattle.satp_base.specs.declared.message.Kind.TheVariants.{TransferProposal}
@@ -16,7 +17,7 @@ use Rattle.satp_base.specs.declared.record.Rec.TheVariants.{Began, Took, Made, D
 use Rattle.satp_base.specs.declared.session.SessionId.{SessionId}
 use Rattle.satp_base.specs.declared.view.View.{View}
 use Rattle.satp_sides.specs.Logs.{IsLog, MayCome}
-use Rattle.satp_sides.specs.Points.{Party, Stored, Text, begun, chain_in, most_sessions, recipient_at, view_in}
+use Rattle.satp_sides.specs.Points.{Party, Stored, Text, begun, chain_in, most_sessions, recipient_at, tale_of, view_in}
 
 -- ---- growing
 
@@ -66,3 +67,12 @@ HasText Rescue t = t ≡ []
 
 abbrev pub LogTexts : Type 0
 LogTexts = (p : Party) (xs : List Stored) (x : Stored) → IsLog p xs → MayCome p xs x → HasText x.rec x.text
+
+-- ---- the same by parts
+
+-- The texts of a session are the chain of these parts, whose kinds are its tale; the first is a proposal with the terms of the records.
+pub record HalfChain (s : SessionId) (recipient : Name) (key : List ℕ) (xs : List Stored) (parts : List Part) : Type 0 where
+  pub chain : chain_in s xs ≡ texts_of s recipient key parts
+  pub tale : tale_of (view_in s xs) ≡ map part_kind parts
+  pub formed : AllByRecursion IsPart parts
+  pub headed : (v : View) → view_in s xs ≡ Some v → (rest : List Part) × (parts ≡ Proposal v.terms ∷ rest)

@@ -6,6 +6,7 @@ pub mod HalfCheck
 pub mod HalfComplete
 pub mod HalfSound
 pub mod DealSteps
+pub mod DealLaw
 pub mod StepLaw
 pub mod SessionLaw
 pub mod Safety
@@ -25,6 +26,7 @@ pub mod LedgerLaw
 pub mod Amounts
 pub mod Books
 pub mod TotalLaw
+pub mod StandLaw
 pub mod KeptLaw
 pub mod Limits
 pub mod SenderLaw

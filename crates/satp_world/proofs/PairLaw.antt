@@ -39,32 +39,14 @@ use Rattle.satp_base.proofs.Places.{maker-at}
 use Rattle.satp_sides.specs.Logs.{IsNote}
 use Rattle.satp_sides.specs.Moves.{LedgerFits}
 use Rattle.satp_sides.specs.Points.{tale_of, Side, chain_in, is_session, records_of, view_in, with_record}
-use Rattle.satp_sides.proofs.Chained.{HalfChain, long, next-formed}
-use Rattle.satp_world.proofs.Tied.{TiedParts, flip-tied, taken}
-use Rattle.satp_world.proofs.Tied.TiedParts.{Same, Mine_ahead, Peer_ahead}
+use Rattle.satp_sides.specs.LogLaws.{HalfChain}
+use Rattle.satp_sides.proofs.Chained.{long, next-formed}
+use Rattle.satp_world.specs.Standing.{PairStands, TiedParts, entry_at, session_by, session_of}
+use Rattle.satp_world.proofs.Tied.{flip-tied, taken}
+use Rattle.satp_world.specs.Standing.TiedParts.{Same, Mine_ahead, Peer_ahead}
 use Rattle.satp_sides.proofs.Growth.{half-more, half-noted, half-first, half-apart}
 use Rattle.satp_sides.proofs.Growth.Carries.{As_taken, As_made}
 use Rattle.satp_world.proofs.SessionLaw.{law_step}
-
--- the session, as the side of a role and its peer see it
-abbrev pub session_by : Role → Option View → Option View → Entry → Entry → Session
-session_by Origin v w e f = record { a = v; b = w; a_entry = e; b_entry = f }
-session_by Recipient v w e f = record { a = w; b = v; a_entry = f; b_entry = e }
-
-abbrev pub entry_at : SessionId → Side → Entry
-entry_at s side = entry_of side.book.entries s
-
-abbrev pub session_of : Role → SessionId → Side → Side → Session
-session_of role s mine peer = session_by role (view_in s mine.records) (view_in s peer.records) (entry_at s mine) (entry_at s peer)
-
--- what stands of the session: the joint invariant, and both chains
-pub record PairStands (role : Role) (s : SessionId) (recipient : Name) (key : List ℕ) (mine peer : Side) : Type 0 where
-  pub stands : SessionStands (session_of role s mine peer)
-  pub my_parts : List Part
-  pub peer_parts : List Part
-  pub my_chain : HalfChain s recipient key mine.records my_parts
-  pub peer_chain : HalfChain s recipient key peer.records peer_parts
-  pub tied : TiedParts role my_parts peer_parts
 
 -- what stands behind a move, and the deal
 pub record PairMoved (role : Role) (s : SessionId) (recipient : Name) (key : List ℕ) (mine new peer : Side) : Type 0 where

@@ -47,7 +47,8 @@ use Rattle.satp_world.proofs.FreshCheck.{origins_fresh, recipients_fresh}
 use Rattle.satp_world.proofs.StepLaw.{origin-in, recipient-in}
 use Rattle.satp_world.proofs.StepLaw as step
 use Rattle.satp_world.proofs.TaleSteps.{begun-in}
-use Rattle.satp_world.proofs.PairLaw.{role-is, session_by}
+use Rattle.satp_world.specs.Standing.{session_by}
+use Rattle.satp_world.proofs.PairLaw.{role-is}
 use Rattle.satp_sides.proofs.Records.{is-session, records-apart, records-here, view-apart, view-first, view-here}
 use Rattle.satp_sides.proofs.Rules.{took-rule}
 

@@ -13,6 +13,8 @@ use Rattle.satp_base.specs.declared.ledger.LedgerOp.TheVariants.{Lock, Burn, Min
 use Rattle.satp_base.specs.declared.ledger.Entry.{Entry}
 use Rattle.satp_base.specs.declared.ledger.Entry.TheVariants.{Absent}
 use Rattle.satp_base.specs.declared.ledger.Answer.{Answer}
+use Rattle.satp_base.specs.declared.record.Cause.TheVariants.{LockRefused, UnknownAsset, MintCapped, LedgerTaken}
+use Rattle.satp_base.specs.declared.record.Way.TheVariants.{Back}
 use Rattle.satp_base.specs.declared.record.Rec.{Rec}
 use Rattle.satp_base.specs.declared.record.Rec.TheVariants.{Began, Took, Made, Did, Chose, Rescue}
 use Rattle.satp_base.specs.declared.record.Next.{Next}
@@ -27,7 +29,7 @@ use Rattle.satp_base.specs.Roles.RoleRule.{Due, Answered, Free}
 use Rattle.satp_base.proofs.RoleLemmas.{role-gives, after-shape, makes-is}
 use Rattle.satp_base.proofs.SessionLemmas.{sessions_total}
 use Rattle.satp_sides.specs.Logs.{IsNote}
-use Rattle.satp_sides.specs.Moves.{LedgerFits}
+use Rattle.satp_sides.specs.Moves.{RefusesNow, LedgerFits}
 use Rattle.satp_sides.specs.Points.{is_session}
 use Rattle.satp_sides.specs.Halves.{Agrees, can_do, entry_is}
 use Rattle.satp_world.specs.Sessions.{Moves}
@@ -57,6 +59,20 @@ agrees-by b Mint s terms (Answer.Capped total) new h = (h.0, ap (λ x. entry_of 
 agrees-by b _ s terms _ new h = absurd h
 
 -- ---- records
+
+-- the ledger as an operation left it has its result, or refuses as it did
+refused-now : (b new : Book) (op : LedgerOp) (s : SessionId) (terms : Terms) (a : Answer) (r : Rec) → new ≡ b → LedgerRule b op s terms a new → After op a r → RefusesNow new op s terms r
+refused-now b new op s terms a r e rule x = (a, subst (λ c. LedgerRule c op s terms a new) (sym e) rule, x)
+
+pub after-fits : (b : Book) (op : LedgerOp) (s : SessionId) (terms : Terms) (a : Answer) (new : Book) (r : Rec) → LedgerRule b op s terms a new → After op a r → LedgerFits new s terms r
+after-fits b op s terms Answer.Done new r (inl h) x = subst (LedgerFits new s terms) (sym x) (ap (λ c. entry_of c.entries s) h.1 ∙ h.0)
+after-fits b op s terms Answer.Done new r (inr h) x = subst (LedgerFits new s terms) (sym x) (ap (λ c. entry_of c.entries s) h.2 ∙ entry-moved b op s terms)
+after-fits b Lock s terms (Answer.NoFunds free) new r h x = subst (LedgerFits new s terms) (sym x) (refused-now b new Lock s terms (Answer.NoFunds free) (Chose (Back LockRefused)) h.3 h refl)
+after-fits b Lock s terms (Answer.Taken entry) new r h x = subst (LedgerFits new s terms) (sym x) (refused-now b new Lock s terms (Answer.Taken entry) (Chose (Back LockRefused)) h.3 h refl)
+after-fits b Mint s terms Answer.UnknownAsset new r h x = subst (LedgerFits new s terms) (sym x) (refused-now b new Mint s terms Answer.UnknownAsset (Chose (Back UnknownAsset)) h.2 h refl)
+after-fits b Mint s terms (Answer.Capped total) new r h x = subst (LedgerFits new s terms) (sym x) (refused-now b new Mint s terms (Answer.Capped total) (Chose (Back MintCapped)) h.3 h refl)
+after-fits b Mint s terms (Answer.Taken entry) new r h x = subst (LedgerFits new s terms) (sym x) (refused-now b new Mint s terms (Answer.Taken entry) (Chose (Back LedgerTaken)) h.3 h refl)
+after-fits b _ s terms _ new r h x = absurd h
 
 agrees-done : (op : LedgerOp) (e : Entry) → e ≡ result_of op → Agrees op e Answer.Done e
 agrees-done op e p = (subst (λ v. can_do op v ≡ true) (sym p) (does_own op), p)

@@ -11,9 +11,9 @@ use Rattle.satp_base.specs.Tales.{has, is_whole, is_committed, is_rolled_back}
 use Rattle.satp_base.specs.Roles.{both, either, negate, is_back}
 use Rattle.satp_base.proofs.Finite.{implies-use}
 use Rattle.satp_base.proofs.TaleTable.{tale_eq, tale_eq-refl}
-use Rattle.satp_world.specs.Deal.{Decision}
+use Rattle.satp_world.specs.Deal.{IsFreeOnOne, Decision}
 use Rattle.satp_sides.specs.Halves.{Half, half, entry_is}
-use Rattle.satp_world.specs.Sessions.{Stands, StandsAt, Session, SessionStands, IsSafe, IsSettled, Reaches, LawSessions, decision_of}
+use Rattle.satp_world.specs.Sessions.{deal_of, Stands, StandsAt, Session, SessionStands, IsSafe, IsSettled, Reaches, LawSessions, decision_of}
 use Rattle.satp_world.specs.Sessions.Reaches.{Begins, Goes}
 use Rattle.satp_world.proofs.Logic.{both-left, both-right, both-make, negate-use, either-split}
 use Rattle.satp_world.proofs.DealSteps.{decision-is, entry-is}
@@ -98,6 +98,11 @@ back-alone None h = absurd (cc h)
 back-alone (Some Commit) h = absurd (cc h)
 back-alone (Some (Back cause)) h = refl
 
+-- settled entries are free on one ledger
+free-on-one : (s : Session) → IsSettled s → IsFreeOnOne (deal_of s)
+free-on-one s (inl h) = inr (h.2, λ p. elim p [ inl q ↦ cc (q, h.1) | inr q ↦ cc (q, h.1) ])
+free-on-one s (inr h) = inl (inr h.1, λ p. elim h.2 [ inl q ↦ cc (p, q) | inr q ↦ cc (p, q) ])
+
 safe_pair : (a b : View) (ea eb : Entry) → Stands (half a ea) (half b eb) → IsSafe (both_sides a b ea eb)
 safe_pair a b ea eb s =
     let t = tested (half a ea) (half b eb) s in
@@ -112,6 +117,7 @@ safe_pair a b ea eb s =
           let r = both-right (has CommitReady a.tale) _ h in
           (both-left (has CommitReady a.tale) _ h, both-left (has CommitReady b.tale) _ r, both-right (has CommitReady b.tale) _ r));
       settled = λ w. settled_by a b ea eb w.1 (implies-use _ _ t.settled (both-make _ _ (subst (λ v. tale_eq a.tale v ≡ true) w.0 (tale_eq-refl a.tale)) w.1));
+      free_on_one = free-on-one (both_sides a b ea eb);
     }
 
 -- a proposal alone: the recipient's ledger has no entry, and the origin has neither burnt nor ended
@@ -125,6 +131,7 @@ safe_proposal a ea eb s =
       released_by_a_back = λ e. elim e [ inl p ↦ back-alone a.way (s.0.released (entry-same ea Released p)) | inr p ↦ absurd (cc (p, s.3)) ];
       committed_when_ready = λ e. let h = s.0.committed e in absurd (cc (h, ap (has CommitReady) s.1));
       settled = λ w. absurd (cc (w.1, ap is_whole s.1));
+      free_on_one = free-on-one (record { a = Some a; b = None; a_entry = ea; b_entry = eb });
     }
 
 safe_unbegun : (ea eb : Entry) → (ea ≡ Absent) × (eb ≡ Absent) → IsSafe (record { a = None; b = None; a_entry = ea; b_entry = eb })
@@ -137,6 +144,7 @@ safe_unbegun ea eb s =
       released_by_a_back = λ e. elim e [ inl p ↦ absurd (cc (p, s.0)) | inr p ↦ absurd (cc (p, s.1)) ];
       committed_when_ready = λ e. absurd (cc e);
       settled = λ w. absurd (cc w.1);
+      free_on_one = free-on-one (record { a = None; b = None; a_entry = ea; b_entry = eb });
     }
 
 safe_at : (a b : Option View) (ea eb : Entry) → StandsAt a b ea eb → IsSafe (record { a = a; b = b; a_entry = ea; b_entry = eb })

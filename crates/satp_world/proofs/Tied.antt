@@ -22,14 +22,10 @@ use Rattle.satp_base.specs.Tales.{other}
 use Rattle.satp_base.proofs.ChainLemmas.{length-texts, link_at_formed, link_formed, texts_appended, zero_formed}
 use Rattle.satp_base.proofs.SignatureLemmas.{own_shows}
 use Rattle.satp_sides.specs.Points.{tale_of, Side, chain_in, view_in}
+use Rattle.satp_world.specs.Standing.{TiedParts}
+use Rattle.satp_world.specs.Standing.TiedParts.{Same, Mine_ahead, Peer_ahead}
 use Rattle.satp_sides.proofs.Chained.{formed-last, get-next, long, next-formed, one-part}
 use Rattle.satp_sides.proofs.Records.{get-bound, get-old, get-split}
-
--- one list of parts is the other, or longer by one, which is then of the side whose place it is
-pub data TiedParts (role : Role) (mine peer : List Part) : Type 0 where
-  Same : mine ≡ peer → TiedParts role mine peer
-  Mine_ahead : (p : Part) → role_at (length peer + 1) ≡ role → mine ≡ peer ++ p ∷ [] → TiedParts role mine peer
-  Peer_ahead : (p : Part) → role_at (length mine + 1) ≡ other role → peer ≡ mine ++ p ∷ [] → TiedParts role mine peer
 
 twice : (role : Role) → role ≡ other (other role)
 twice Origin = refl

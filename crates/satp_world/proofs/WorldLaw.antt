@@ -57,10 +57,13 @@ use Rattle.satp_world.specs.Worlds.WorldMoves.{By}
 use Rattle.satp_world.specs.Worlds.Reached.{Begins, Goes}
 use Rattle.satp_world.specs.Worlds.TiedTexts.{Same as Same_texts, Origin_ahead, Recipient_ahead}
 use Rattle.satp_sides.proofs.Records.{is-session, view-apart, chain-here, chain-apart, get-old}
-use Rattle.satp_sides.proofs.Chained.{HalfChain, long, message-of}
-use Rattle.satp_world.proofs.Tied.{TiedParts, maker-has}
-use Rattle.satp_world.proofs.Tied.TiedParts.{Same, Mine_ahead, Peer_ahead}
-use Rattle.satp_world.proofs.PairLaw.{PairStands, PairMoved, session_by, role-is, flip-pair, noted, acted, acted-apart, apart, made, took-by, unmoved, proposed, accepted}
+use Rattle.satp_sides.specs.LogLaws.{HalfChain}
+use Rattle.satp_sides.proofs.Chained.{long, message-of}
+use Rattle.satp_world.specs.Standing.{IsNamed, WorldStands, TiedParts}
+use Rattle.satp_world.proofs.Tied.{maker-has}
+use Rattle.satp_world.specs.Standing.TiedParts.{Same, Mine_ahead, Peer_ahead}
+use Rattle.satp_world.specs.Standing.{PairStands, session_by}
+use Rattle.satp_world.proofs.PairLaw.{PairMoved, role-is, flip-pair, noted, acted, acted-apart, apart, made, took-by, unmoved, proposed, accepted}
 use Rattle.satp_world.proofs.EntryLaw.{entries-kept}
 use Rattle.satp_world.proofs.ReadOff.{read-off}
 use Rattle.satp_world.proofs.SafeLaw.{safe-of}
@@ -85,18 +88,6 @@ not_itself B h = cc h
 abbrev HasRole : Setting → Gateway → Role → SessionId → Type 0
 HasRole st q Origin s = s.gateway ≡ name_at st q
 HasRole st q Recipient s = s.gateway ≡ name_at st (opposite q)
-
--- the session is one of both gateways
-abbrev IsNamed : Setting → Gateway → SessionId → Type 0
-IsNamed st q s = (s.gateway ≡ name_at st q) ⊎ (s.gateway ≡ name_at st (opposite q))
-
--- ---- what stands of a world
-
-record WorldStands (st : Setting) (w : World) : Type 0 where
-  pairs : (g : Gateway) (s : SessionId) → s.gateway ≡ name_at st g → PairStands Origin s (name_at st (opposite g)) st.key (side_at w g) (side_at w (opposite g))
-  named : (q : Gateway) (s : SessionId) (v : View) → view_in s (side_at w q).records ≡ Some v → IsNamed st q s
-  bag : BagStands st w w.bag
-  entries : (g : Gateway) → EntriesStand (side_at w g)
 
 -- ---- a move, as one session sees it
 
@@ -437,7 +428,7 @@ world-entries st w k B side bag m B = entries-kept (party_at st B) w.b w.bag sid
 world-entries st w k A side bag m B = k.entries B
 world-entries st w k B side bag m A = k.entries A
 
-next-stands : (st : Setting) (w : World) (k : WorldStands st w) (q : Gateway) (side : Side) (bag : List Text) → SideMoves (party_at st q) (side_at w q) w.bag side bag → WorldStands st (with_side w q side bag)
+pub next-stands : (st : Setting) (w : World) (k : WorldStands st w) (q : Gateway) (side : Side) (bag : List Text) → SideMoves (party_at st q) (side_at w q) w.bag side bag → WorldStands st (with_side w q side bag)
 next-stands st w k q side bag m = record {
   pairs = λ g s h. (pair-moved st w k g q s h side bag m).stands;
   named = world-named st w k q side bag m;
@@ -445,7 +436,7 @@ next-stands st w k q side bag m = record {
   bag = subst (BagStands st (with_side w q side bag)) (sym (bag-of w q side bag)) (λ t d g s gate n previous p f e. grows st w q side bag m (maker_side g (role_at (n + 1))) s n t (moved-bag st w k q side bag m t d g s gate n previous p f e));
 }
 
-entry-none : (a : Founding) (b : Founding) (g : Gateway) (s : SessionId) → entry_of (side_at (start a b) g).book.entries s ≡ Absent
+pub entry-none : (a : Founding) (b : Founding) (g : Gateway) (s : SessionId) → entry_of (side_at (start a b) g).book.entries s ≡ Absent
 entry-none a b A s = ap (λ o. option_map_or (λ (k : LedgerEntry). k.entry) o Absent) (get-empty session_cmp s)
 entry-none a b B s = ap (λ o. option_map_or (λ (k : LedgerEntry). k.entry) o Absent) (get-empty session_cmp s)
 
@@ -457,7 +448,7 @@ no-entry : (a b : Founding) (g : Gateway) → EntriesStand (side_at (start a b) 
 no-entry a b A s k e = absurd (cc (sym (get-empty session_cmp s) ∙ e))
 no-entry a b B s k e = absurd (cc (sym (get-empty session_cmp s) ∙ e))
 
-start-stands : (st : Setting) (a b : Founding) → WorldStands st (start a b)
+pub start-stands : (st : Setting) (a b : Founding) → WorldStands st (start a b)
 start-stands st a b = record {
   pairs = λ g s h. by_gateway g s;
   entries = no-entry a b;
@@ -486,7 +477,7 @@ world-stands st a b _ (Goes w v r (By q side bag m)) = next-stands st w (world-s
 session-stands : (st : Setting) (w : World) (k : WorldStands st w) (g : Gateway) (s : SessionId) → s.gateway ≡ name_at st g → SessionStands (session_in w g s)
 session-stands st w k g s h = (k.pairs g s h).stands
 
-deal-goes-on : (st : Setting) (w : World) (k : WorldStands st w) (g : Gateway) (s : SessionId) → s.gateway ≡ name_at st g → (v : World) → WorldMoves st w v → DealGoesOn (session_in w g s) (session_in v g s)
+pub deal-goes-on : (st : Setting) (w : World) (k : WorldStands st w) (g : Gateway) (s : SessionId) → s.gateway ≡ name_at st g → (v : World) → WorldMoves st w v → DealGoesOn (session_in w g s) (session_in v g s)
 deal-goes-on st w k g s h _ (By q side bag m) = (pair-moved st w k g q s h side bag m).deal
 
 equal-chains : (s : SessionId) (r : Name) (key : List ℕ) (mine peer : Side) → PairStands Origin s r key mine peer → chain_in s mine.records ≡ chain_in s peer.records → tale_of (view_in s mine.records) ≡ tale_of (view_in s peer.records)

@@ -5,11 +5,14 @@ use Rattle.satp_base.specs.Genesis.{IsGenesis}
 use Rattle.satp_base.specs.LedgerRule.{LedgerRule, entry_of}
 use Rattle.satp_base.specs.Money.{Book}
 use Rattle.satp_base.specs.Numbers.{greatest_amount}
+use Rattle.satp_base.specs.Roles.{After}
 use Rattle.satp_base.specs.declared.ledger.Answer.{Answer}
 use Rattle.satp_base.specs.declared.ledger.Entry.{Entry}
 use Rattle.satp_base.specs.declared.ledger.LedgerOp.{LedgerOp}
 use Rattle.satp_base.specs.declared.message.Terms.{Terms}
+use Rattle.satp_base.specs.declared.record.Rec.{Rec}
 use Rattle.satp_base.specs.declared.session.SessionId.{SessionId}
+use Rattle.satp_sides.specs.Moves.{LedgerFits}
 use Rattle.satp_world.specs.Examples.{first_book}
 use Rattle.satp_sides.specs.Halves.{Agrees}
 
@@ -46,3 +49,9 @@ abbrev pub AgreedIsAnswered : Type 0
 AgreedIsAnswered =
     (op : LedgerOp) (before : Entry) (answer : Answer) (after : Entry)
     → Agrees op before answer after → IsShown answer → IsAnswered op before answer after
+
+-- The record after an answer fits the ledger as the operation left it.
+abbrev pub AfterFits : Type 0
+AfterFits =
+    (b : Book) (op : LedgerOp) (s : SessionId) (terms : Terms) (answer : Answer) (new : Book) (r : Rec)
+    → LedgerRule b op s terms answer new → After op answer r → LedgerFits new s terms r

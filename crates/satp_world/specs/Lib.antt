@@ -6,3 +6,4 @@ pub mod Ledgers
 pub mod Totals
 pub mod Limits
 pub mod Kept
+pub mod Standing

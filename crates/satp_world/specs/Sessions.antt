@@ -21,7 +21,7 @@ use Rattle.satp_base.specs.Views.{begin, push}
 use Rattle.satp_base.specs.Roles.{both, either, no_way, is_commit, is_back, is_aborted, next_of, After, Other}
 use Rattle.satp_sides.specs.Halves.{Agrees, Half, OriginStands, RecipientStands, after_record, half, with_entry}
 use Rattle.satp_sides.specs.Points.{tale_of}
-use Rattle.satp_world.specs.Deal.{Deal, Decision, DealStep, IsFreeAtOrigin, IsFreeAtRecipient}
+use Rattle.satp_world.specs.Deal.{Deal, Decision, DealStep, IsFreeAtOrigin, IsFreeAtRecipient, IsFreeOnOne}
 
 -- A move of one side of a session, while the other side's tale is `peer`.
 pub data Moves (role : Role) (h : Half) (peer : List Kind) : Half → Type 0 where
@@ -138,6 +138,8 @@ pub record IsSafe (s : Session) : Type 0 where
   pub released_by_a_back : (s.a_entry ≡ Released) ⊎ (s.b_entry ≡ Released) → (deal_of s).v ≡ Decision.Back
   pub committed_when_ready : IsTrue (is_commit (way_of s.a)) → IsReady s
   pub settled : IsWhole s → IsSettled s
+  -- a settled session leaves the asset free on exactly one ledger
+  pub free_on_one : IsSettled s → IsFreeOnOne (deal_of s)
 
 abbrev pub LawSessions : Type 0
 LawSessions = (s : Session) → Reaches s → SessionStands s × IsSafe s

@@ -3,25 +3,40 @@
 //! The laws of this crate stand over definitions alone. They make no call: what each says is its contract.
 #![tactic(auto)]
 
+ghost use Rattle.satp_world.specs.Deal.{LawDeals};
 ghost use Rattle.satp_world.specs.Sessions.{LawSessions, LawStep};
+ghost use Rattle.satp_world.specs.Standing.{BeginningStands, MovesStand, SessionsRun, SessionsRunFromTheFirst};
 ghost use Rattle.satp_world.specs.Worlds.{LawSafety};
 ghost use Rattle.satp_world.specs.Examples.{LawEndings};
-ghost use Rattle.satp_world.specs.Ledgers.{AgreedIsAnswered, RuleAgrees};
+ghost use Rattle.satp_world.specs.Ledgers.{AfterFits, AgreedIsAnswered, RuleAgrees};
 ghost use Rattle.satp_world.specs.Kept.{BagWasSaid, LogsAreKept, MovesReach, RoomLeft, SaidIsShort, SenderKnows};
 ghost use Rattle.satp_world.specs.Limits.{LawLimits};
 ghost use Rattle.satp_world.specs.Totals.{LawTotal};
 
+/// The deals that steps of the machine lead to from the first one are those of a list, and no other. Six steps lead to
+/// each of them.
+pub fn law_deals()
+    ensures { LawDeals }
+{}
+
 /// From every state of a session in which the joint invariant holds, each move of either side keeps it, and is a step
 /// of the deal machine or leaves the deal as it is. Ledgers may answer as their amounts allow.
+///
+/// The same of both gateways with all their sessions, over signed texts, ledgers and the bag: ledgers as they were
+/// founded meet the invariant, and from any two sides that meet it each move keeps it.
 pub fn law_step()
-    ensures { LawStep }
+    ensures session { LawStep }
+    ensures beginning { BeginningStands }
+    ensures moves { MovesStand }
 {}
 
 /// The moves of one session see no amounts. What a ledger answers by its rule is an answer that they allow, with the
-/// entries that it finds and leaves, and every answer that they allow is given by some ledger.
+/// entries that it finds and leaves, and every answer that they allow is given by some ledger. The record after an answer
+/// fits the ledger as the operation left it.
 pub fn law_ledgers()
     ensures rule { RuleAgrees }
     ensures answered { AgreedIsAnswered }
+    ensures fits { AfterFits }
 {}
 
 /// In every state that moves of both sides lead to, the asset is never free on both ledgers, a burnt entry has its
@@ -31,10 +46,13 @@ pub fn law_sessions()
 {}
 
 /// In every world that moves of both gateways lead to, over their signed texts and ledgers, each session of either
-/// gateway is in such a state, and whatever moves next, its deal goes on by one step of the deal machine or not at all.
-/// Texts may be lost, repeated and reordered, and gateways may stop: only a text that was said is ever taken.
+/// gateway is in such a state, and whatever moves next, its deal goes on by one step of the deal machine or not at all:
+/// so its deals are a run of the machine from the first one on. Texts may be lost, repeated and reordered, and gateways
+/// may stop: only a text that was said is ever taken.
 pub fn law_safety()
-    ensures { LawSafety }
+    ensures safe { LawSafety }
+    ensures runs { SessionsRun }
+    ensures from_the_first { SessionsRunFromTheFirst }
 {}
 
 /// Each ending of a session is reached by moves from the beginning, wherever the amounts of both ledgers allow it: a

@@ -1,5 +1,5 @@
 use Rattle.satp_world.proofs.LedgerLaw.{agreed-answered}
-use Rattle.satp_world.proofs.RuleMoves.{agrees-by}
+use Rattle.satp_world.proofs.RuleMoves.{after-fits, agrees-by}
 use Rattle.satp_world.proofs.law_ledgers.Goals as goal
 
 pub returns-clause-rule : goal.returns-clause-rule
@@ -7,3 +7,6 @@ returns-clause-rule c = agrees-by
 
 pub returns-clause-answered : goal.returns-clause-answered
 returns-clause-answered c = agreed-answered
+
+pub returns-clause-fits : goal.returns-clause-fits
+returns-clause-fits c = after-fits

@@ -1,4 +1,4 @@
-use Rattle.std.proofs.Common.{◌≡◌, length, take, ◌<◌, ◌⊎◌, ℕ, true, false, ap, refl, inl, inr, arith, lit<, rules}
+use Rattle.std.proofs.Common.{◌≡◌, ◌≢◌, length, take, ◌<◌, ◌⊎◌, ℕ, true, false, ap, refl, inl, inr, arith, lit<, rules}
 use Rattle.satp_base.specs.Tales.{eleven}
 use Rattle.satp_base.specs.declared.ledger.Entry.TheVariants.{Absent, Locked, Burnt, Minted, Assigned, Released}
 use Rattle.satp_base.specs.declared.message.Kind.TheVariants.{TransferCommence, CommenceAck}
@@ -85,6 +85,94 @@ locked_by d c r (Assigns a b) was is = absurd cc
 locked_by d c r (Origin_releases v a) was is = absurd cc
 locked_by d c r (Recipient_releases v b) was is = absurd cc
 
+turns_back_by : (d c : Deal) (r : Role) → DealStep d r c → d.v ≡ Decision.Commit → c.v ≡ Decision.Back → ⊥
+turns_back_by d c r (Locks a v) was is = absurd cc
+turns_back_by d c r (Mints a b) was is = absurd cc
+turns_back_by d c r (Readies b) was is = absurd cc
+turns_back_by d c r (Commits v ready a) was is = absurd cc
+turns_back_by d c r (Origin_backs v) was is = absurd cc
+turns_back_by d c r (Recipient_backs v ready) was is = absurd cc
+turns_back_by d c r (Burns v a) was is = absurd cc
+turns_back_by d c r (Assigns a b) was is = absurd cc
+turns_back_by d c r (Origin_releases v a) was is = absurd cc
+turns_back_by d c r (Recipient_releases v b) was is = absurd cc
+
+minted_by : (d c : Deal) (r : Role) → DealStep d r c → d.b ≡ Absent → c.b ≡ Minted → (d.a ≡ Locked) ⊎ (d.a ≡ Released)
+minted_by d c r (Locks a v) was is = absurd cc
+minted_by d c r (Mints a b) was is = a
+minted_by d c r (Readies b) was is = absurd cc
+minted_by d c r (Commits v ready a) was is = absurd cc
+minted_by d c r (Origin_backs v) was is = absurd cc
+minted_by d c r (Recipient_backs v ready) was is = absurd cc
+minted_by d c r (Burns v a) was is = absurd cc
+minted_by d c r (Assigns a b) was is = absurd cc
+minted_by d c r (Origin_releases v a) was is = absurd cc
+minted_by d c r (Recipient_releases v b) was is = absurd cc
+
+readied_by : (d c : Deal) (r : Role) → DealStep d r c → d.ready ≡ false → c.ready ≡ true → d.b ≡ Minted
+readied_by d c r (Locks a v) was is = absurd cc
+readied_by d c r (Mints a b) was is = absurd cc
+readied_by d c r (Readies b) was is = b
+readied_by d c r (Commits v ready a) was is = absurd cc
+readied_by d c r (Origin_backs v) was is = absurd cc
+readied_by d c r (Recipient_backs v ready) was is = absurd cc
+readied_by d c r (Burns v a) was is = absurd cc
+readied_by d c r (Assigns a b) was is = absurd cc
+readied_by d c r (Origin_releases v a) was is = absurd cc
+readied_by d c r (Recipient_releases v b) was is = absurd cc
+
+burns_by : (d c : Deal) (r : Role) → DealStep d r c → d.a ≡ Absent → c.a ≡ Burnt → ⊥
+burns_by d c r (Locks a v) was is = absurd cc
+burns_by d c r (Mints a b) was is = absurd cc
+burns_by d c r (Readies b) was is = absurd cc
+burns_by d c r (Commits v ready a) was is = absurd cc
+burns_by d c r (Origin_backs v) was is = absurd cc
+burns_by d c r (Recipient_backs v ready) was is = absurd cc
+burns_by d c r (Burns v a) was is = absurd cc
+burns_by d c r (Assigns a b) was is = absurd cc
+burns_by d c r (Origin_releases v a) was is = absurd cc
+burns_by d c r (Recipient_releases v b) was is = absurd cc
+
+assigns_by : (d c : Deal) (r : Role) → DealStep d r c → d.b ≡ Absent → c.b ≡ Assigned → ⊥
+assigns_by d c r (Locks a v) was is = absurd cc
+assigns_by d c r (Mints a b) was is = absurd cc
+assigns_by d c r (Readies b) was is = absurd cc
+assigns_by d c r (Commits v ready a) was is = absurd cc
+assigns_by d c r (Origin_backs v) was is = absurd cc
+assigns_by d c r (Recipient_backs v ready) was is = absurd cc
+assigns_by d c r (Burns v a) was is = absurd cc
+assigns_by d c r (Assigns a b) was is = absurd cc
+assigns_by d c r (Origin_releases v a) was is = absurd cc
+assigns_by d c r (Recipient_releases v b) was is = absurd cc
+
+let_go_by : (d c : Deal) (r : Role) → DealStep d r c → d.b ≡ Minted → c.b ≡ Released → d.v ≡ Decision.Back
+let_go_by d c r (Locks a v) was is = absurd cc
+let_go_by d c r (Mints a b) was is = absurd cc
+let_go_by d c r (Readies b) was is = absurd cc
+let_go_by d c r (Commits v ready a) was is = absurd cc
+let_go_by d c r (Origin_backs v) was is = absurd cc
+let_go_by d c r (Recipient_backs v ready) was is = absurd cc
+let_go_by d c r (Burns v a) was is = absurd cc
+let_go_by d c r (Assigns a b) was is = absurd cc
+let_go_by d c r (Origin_releases v a) was is = absurd cc
+let_go_by d c r (Recipient_releases v b) was is = v
+
+locks_by : (d c : Deal) (r : Role) → DealStep d r c → d.a ≡ Absent → c.a ≡ Locked → d.v ≢ Decision.Commit
+locks_by d c r (Locks a v) was is = v
+locks_by d c r (Mints a b) was is = absurd cc
+locks_by d c r (Readies b) was is = absurd cc
+locks_by d c r (Commits v ready a) was is = absurd cc
+locks_by d c r (Origin_backs v) was is = absurd cc
+locks_by d c r (Recipient_backs v ready) was is = absurd cc
+locks_by d c r (Burns v a) was is = absurd cc
+locks_by d c r (Assigns a b) was is = absurd cc
+locks_by d c r (Origin_releases v a) was is = absurd cc
+locks_by d c r (Recipient_releases v b) was is = absurd cc
+
+never_minted : (Absent ≡ Locked) ⊎ (Absent ≡ Released) → ⊥
+never_minted (inl e) = cc e
+never_minted (inr e) = cc e
+
 pub returns-clause-steps : goal.returns-clause-steps
 returns-clause-steps c = record {
   locks = Locks refl (search rules);
@@ -101,6 +189,13 @@ returns-clause-steps c = record {
   no_release_behind_a_commit = λ s. let bad = released_by _ _ _ s refl refl in absurd cc;
   no_recipients_back_behind_ready = λ s. let bad = turned_by _ _ _ s refl refl refl in absurd cc;
   no_lock_by_the_recipient = λ s. let bad = locked_by _ _ _ s refl refl in absurd cc;
+  no_origins_back_after_commit = λ s. turns_back_by _ _ _ s refl refl;
+  no_mint_before_the_lock = λ s. never_minted (minted_by _ _ _ s refl refl);
+  no_readiness_before_the_mint = λ s. let bad = readied_by _ _ _ s refl refl in absurd cc;
+  no_burn_of_what_is_not_locked = λ s. burns_by _ _ _ s refl refl;
+  no_assignment_of_what_is_not_minted = λ s. assigns_by _ _ _ s refl refl;
+  no_recipients_release_without_back = λ s. let bad = let_go_by _ _ _ s refl refl in absurd cc;
+  no_lock_after_commit = λ s. locks_by _ _ _ s refl refl refl;
 }
 
 pub returns-clause-safe : goal.returns-clause-safe

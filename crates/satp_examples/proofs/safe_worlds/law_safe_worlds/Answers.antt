@@ -15,7 +15,7 @@ use Rattle.satp_sides.specs.Moves.Delivered.{Alone}
 use Rattle.satp_world.specs.Worlds.Gateway.{A, B}
 use Rattle.satp_world.specs.Worlds.Reached.{Begins, Goes}
 use Rattle.satp_sides.specs.Moves.Sayable.{Own_text}
-use Rattle.satp_sides.specs.Moves.SideMoves.{Accepts, Proposes, Says}
+use Rattle.satp_sides.proofs.Making.{accepts, proposes, says}
 use Rattle.satp_world.specs.Worlds.TiedTexts.{Same, Origin_ahead, Recipient_ahead}
 use Rattle.satp_world.specs.Worlds.WorldMoves.{By}
 use Rattle.satp_base.proofs.ChainLemmas.{zero_formed}
@@ -41,7 +41,7 @@ abbrev begun_by : Setting → Name → Side
 begun_by st peer = begun_with Origin alpha_1 (text_to st peer)
 
 proposed : (st : Setting) → st.a ≡ alpha → Comes st (between (begun_by st st.b) first [])
-proposed st is = Goes (start with_gold with_gold) _ Begins (By A (begun_by st st.b) [] (Proposes alpha_1 quarter (sym is) refl (lit< tt)))
+proposed st is = Goes (start with_gold with_gold) _ Begins (By A (begun_by st st.b) [] (proposes alpha_1 quarter (sym is) refl (lit< tt)))
 
 abbrev first_record : Setting → Stored
 first_record st = record { session = alpha_1; rec = Began Origin quarter; text = text_to st st.b }
@@ -53,10 +53,10 @@ said_chain : (st : Setting) → slice_get (chain_in alpha_1 (begun_by st st.b).r
 said_chain st = ap (λ texts. slice_get texts 0) (chain-here alpha_1 [] (first_record st) (session-self alpha_1))
 
 said : (st : Setting) → st.a ≡ alpha → Comes st (between (begun_by st st.b) first (text_to st st.b ∷ []))
-said st is = Goes _ _ (proposed st is) (By A (begun_by st st.b) (text_to st st.b ∷ []) (Says (text_to st st.b) (Own_text alpha_1 (begin Origin quarter) 0 (text_to st st.b) (said_view st) (said_chain st) refl)))
+said st is = Goes _ _ (proposed st is) (By A (begun_by st st.b) (text_to st st.b ∷ []) (says (text_to st st.b) (Own_text alpha_1 (begin Origin quarter) 0 (text_to st st.b) (said_view st) (said_chain st) refl)))
 
 accepted : (st : Setting) → st.a ≡ alpha → Comes st (between (begun_by st st.b) (begun_with Recipient alpha_1 (text_to st st.b)) (text_to st st.b ∷ []))
-accepted st is = Goes _ _ (said st is) (By B (begun_with Recipient alpha_1 (text_to st st.b)) (text_to st st.b ∷ []) (Accepts alpha_1 quarter (text_to st st.b) (sym is) refl (lit< tt) (Alone among_first) refl))
+accepted st is = Goes _ _ (said st is) (By B (begun_with Recipient alpha_1 (text_to st st.b)) (text_to st st.b ∷ []) (accepts alpha_1 quarter (text_to st st.b) (sym is) refl (lit< tt) (Alone among_first) refl))
 
 -- ---- worlds that are not safe
 

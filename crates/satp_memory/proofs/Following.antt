@@ -11,6 +11,7 @@ use Rattle.satp_base.specs.Money.{Book}
 use Rattle.satp_base.specs.Streams.{Rose}
 use Rattle.satp_base.specs.Trail.{Trail}
 use Rattle.satp_base.specs.declared.area.Event.{Event}
+use Rattle.satp_base.specs.declared.area.Event.TheVariants.{Founded}
 use Rattle.satp_base.specs.declared.ledger.LedgerCall.{LedgerCall}
 use Rattle.satp_base.specs.declared.ledger.LedgerCall.TheVariants.{Act, Found}
 use Rattle.satp_base.specs.declared.ledger.LedgerKind.{LedgerKind}
@@ -278,7 +279,7 @@ site_quiet own before after old new f faults genesis = record { disk = f; genesi
 pub ledger_trouble : (old new : MemDisk) (fits : Bool) → new.events.items ≡ old.events.items → new.stop ≡ old.stop → LedgerFails (is_refused (is_stopped old) old.calls) fits old.calls new.calls → HasTrouble old new ⊎ (fits ≡ false)
 ledger_trouble old new fits events stop (inl (refused, is)) = inl (refused_trouble old new refused (omega (arith, ap length events)) stop (ap (λ (c : Calling). c.count) is))
 ledger_trouble old new fits events stop (inr (inl (free, lacks, is))) = inr lacks
-ledger_trouble old new fits events stop (inr (inr is)) = inl (wanted_trouble old new _ (wants_by (is_refused (is_stopped old) old.calls || not fits)) is)
+ledger_trouble old new fits events stop (inr (inr is)) = inl (wanted_trouble old new (if is_refused (is_stopped old) old.calls || not fits then failed old.calls else succeeded old.calls) (wants_by (is_refused (is_stopped old) old.calls || not fits)) is)
   where
     wants_by : (b : Bool) → old.calls.wants ≤ (if b then failed old.calls else succeeded old.calls).wants
     wants_by true = omega arith
@@ -324,3 +325,19 @@ site_halted own op s t before after h old new mid f on le calls asks = record { 
     trouble halt.Unfounded o c = inr (inl o.0)
     trouble (halt.OutOfOrder entry) (b, is, out, e) c = inr (inr (subst (HasMisfit own) (sym (noted_is old new f _ asks)) (inl (refl, (b, entry, out)))))
     trouble halt.Memory o c = inl (wanted_trouble old new mid le c)
+
+pub is_some_map : {A B : Type 0} (f : A → B) (o : Option A) → is_some (option_map f o) ≡ is_some o
+is_some_map f None = refl
+is_some_map f (Some x) = refl
+
+-- a founding that succeeded
+pub site_founded : (own : LedgerKind) (before : Option Book) (book : Book) (old new : MemDisk) → Follows old new → new.events.items ≡ old.events.items ++ Founded ∷ [] → new.calls.faults ≡ old.calls.faults → FollowsSite own before (Some book) old new
+site_founded own before book old new f events faults =
+    let added : f.added ≡ Founded ∷ [] = append_cancel_left old.events.items f.added (Founded ∷ []) (sym (ap (λ (t : Trail). t.events) f.trail) ∙ events) in
+    record { disk = f; genesis = inl (ap (list_any is_founding) added); cause = inl (faults, λ some. refl) }
+
+pub ledger_wanted : (refused fits : Bool) (c d e : Calling) → refused ≡ false → fits ≡ true → d ≡ succeeded c → e ≡ wanting d → LedgerFails refused fits c e
+ledger_wanted refused fits c d e r f is want = rw (r, f) (inr (inr (want ∙ ap wanting is)))
+
+pub halted_noted : (a b : Ask) (xs ys zs : List Ask) → zs ≡ ys ++ record a { succeeded = false } ∷ [] → ys ≡ xs → a ≡ b → zs ≡ xs ++ record b { succeeded = false } ∷ []
+halted_noted a b xs ys zs is same e = is ∙ (ap (λ (l : List Ask). l ++ record a { succeeded = false } ∷ []) same ∙ ap (λ (x : Ask). xs ++ record x { succeeded = false } ∷ []) e)

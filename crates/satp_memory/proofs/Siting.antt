@@ -1,5 +1,5 @@
 -- Events of areas leave the entries, and what a call on the ledger tells.
-use Rattle.std.proofs.Common.{ℕ, Bool, true, false, if◌then◌else◌, IfSome, ◌≡◌, ◌⊎◌, ◌++◌, ◌∷◌, [], List, Option, Some, None, Result, Ok, Err, refl, sym, ap, subst, ◌∙◌, inl, inr}
+use Rattle.std.proofs.Common.{Bool, true, false, if◌then◌else◌, IfSome, option_map, ◌≡◌, ◌⊎◌, ◌++◌, ◌∷◌, [], List, Option, Some, None, Result, Ok, Err, refl, sym, ap, subst, ◌∙◌, inl, inr}
 use Rattle.std.specs.FinMap as map
 use Rattle.std.proofs.lemmas.List.{append-nil}
 use Rattle.std.proofs.lemmas.List.Sums.{fold-append}
@@ -10,7 +10,7 @@ use Rattle.satp_base.specs.declared.area.Event.{Event}
 use Rattle.satp_base.specs.declared.area.Event.TheVariants.{Acted}
 use Rattle.satp_memory.specs.declared.disk.MemDisk.{MemDisk}
 use Rattle.satp_base.specs.Acts.{ActsOn, Applies, MayAdd, MayRefuse}
-use Rattle.satp_base.specs.Calls.{Told, asked, made}
+use Rattle.satp_base.specs.Calls.{Ask, MayMiss, Told, ask_failed, asked}
 use Rattle.satp_base.specs.LedgerRule.{IsOutOfOrder, moved_entries, operation}
 use Rattle.satp_base.specs.declared.ledger.ActFault.TheVariants as act
 use Rattle.satp_base.specs.declared.ledger.Answer.{Answer}
@@ -27,11 +27,10 @@ use Rattle.satp_base.proofs.RuleLemmas.{order-may}
 use Rattle.satp_memory.specs.declared.operate.Halt.{Halt}
 use Rattle.satp_memory.specs.declared.operate.Halt.TheVariants as halt
 use Rattle.satp_memory.specs.declared.operate.Operated.{Operated}
-use Rattle.satp_memory.specs.Calling.{Calling}
-use Rattle.satp_memory.specs.Halting.{fault_of, halted}
+use Rattle.satp_memory.specs.Halting.{fault_of}
 use Rattle.satp_memory.specs.Sites.{ActTells, OperatesOn, entries_or, halt_of}
 use Rattle.satp_memory.proofs.Operating.{book_by, operation-after}
-use Rattle.satp_memory.specs.Steps.{Adds, adding, entries_before, entries_of}
+use Rattle.satp_memory.specs.Steps.{Adds, adding, counted, entries_before, entries_of, noting}
 
 -- ---- the entries
 
@@ -82,20 +81,29 @@ entries-pushed old new e past events = ap (λ (p : List Event). ledger_at (ledge
 same_some : {A : Type 0} (a b : A) → Some a ≡ Some b → a ≡ b
 same_some a b e = cc
 
-pub counted-told : (t : Told) (m n : ℕ) → m ≡ n → record t { calls = m } ≡ record t { calls = n }
-counted-told t m n e = ap (λ (k : ℕ). record t { calls = k }) e
+module _ (call : LedgerCall) (t0 t1 t2 : Told) (ask : Ask) (noted : ask ≡ record { call = call; before = t0.calls; succeeded = true }) (told : t1 ≡ counted t0) where
+  abbrev note : Bool → Ask
+  note b = record { call = call; before = t0.calls; succeeded = b }
 
--- further events after a call that was told
-pub asked-adding : (call : LedgerCall) (t0 t1 t2 : Told) (events : List Event) → Some t1 ≡ Some (asked call [] t0) → t2 ≡ adding events t1 → Some t2 ≡ Some (asked call events t0)
-asked-adding call t0 t1 t2 events told more =
-    ap Some (more ∙ ap (adding events) (same_some t1 (asked call [] t0) told) ∙ ap (λ (l : List Event). record (asked call [] t0) { trail = record t0.trail { events = l ++ events } }) (append-nil t0.trail.events))
+  -- a call that succeeded, and added these events or none
+  pub asked-adding : (events : List Event) → t2 ≡ noting ask (adding events t1) → Some t2 ≡ Some (asked call events t0)
+  asked-adding events more = ap Some (more ∙ (ap (λ (a : Ask). noting a (adding events t1)) noted ∙ ap (λ (t : Told). noting (note true) (adding events t)) told))
+
+  pub asked-none : t2 ≡ noting ask t1 → Some t2 ≡ Some (asked call [] t0)
+  asked-none more = ap Some (more ∙ (ap (λ (a : Ask). noting a t1) noted ∙ (ap (noting (note true)) told ∙ ap (λ (l : List Event). noting (note true) (record (counted t0) { trail = record t0.trail { events = l } })) (sym (append-nil t0.trail.events)))))
+
+  -- a call that failed after it was counted
+  pub asked-failing : t2 ≡ noting (record ask { succeeded = false }) (record t1 { last_failed = Some t1.calls }) → Some t2 ≡ Some (ask_failed call [] t0)
+  asked-failing more =
+      ap Some (more ∙ (ap (λ (a : Ask). noting (record a { succeeded = false }) (record t1 { last_failed = Some t1.calls })) noted ∙ (ap (λ (t : Told). noting (note false) (record t { last_failed = Some t.calls })) told
+      ∙ ap (λ (l : List Event). noting (note false) (record (counted t0) { trail = record t0.trail { events = l }; last_failed = Some (counted t0).calls })) (sym (append-nil t0.trail.events)))))
 
 module _ (op : LedgerOp) (s : SessionId) (t : Terms) (t0 t2 : Told) where
   same-book : (b0 b1 : Option Book) → b1 ≡ b0 → IfSome b0 (λ b. ActsOn op s t b (Err act.Failed) [] b1)
   same-book None b1 e = tt
   same-book (Some b) b1 e = inl (refl, e)
 
-  pub failed-act : (b0 b1 : Option Book) → b1 ≡ b0 → (Some t2 ≡ Some (asked (Act op s t) [] t0)) ⊎ (Some t2 ≡ Some (made 1 [] t0)) → ActTells op s t b0 (Err act.Failed) b1 t0 t2
+  pub failed-act : (b0 b1 : Option Book) → b1 ≡ b0 → MayMiss (ask_failed (Act op s t) []) [] (Some t0) (Some t2) → ActTells op s t b0 (Err act.Failed) b1 t0 t2
   failed-act b0 b1 e asks = ([], inr refl, same-book b0 b1 e, asks)
 
   out-book : (b0 b1 : Option Book) (entry : Entry) (b : Book) → b0 ≡ Some b → IsOutOfOrder b op s entry → b1 ≡ b0 → IfSome b0 (λ x. ActsOn op s t x (Err (act.OutOfOrder entry)) [] b1)
@@ -107,7 +115,7 @@ module _ (op : LedgerOp) (s : SessionId) (t : Terms) (t0 t2 : Told) where
   halted-book b0 b1 (halt.OutOfOrder entry) (b, is, out, e) = e
   halted-book b0 b1 halt.Memory h = h
 
-  pub halted-act : (b0 b1 : Option Book) (h : Halt) → OperatesOn op s t b0 (Err h) b1 → Some t2 ≡ Some (asked (Act op s t) [] t0) → ActTells op s t b0 (Err (fault_of h)) b1 t0 t2
+  pub halted-act : (b0 b1 : Option Book) (h : Halt) → OperatesOn op s t b0 (Err h) b1 → Some t2 ≡ Some (ask_failed (Act op s t) [] t0) → ActTells op s t b0 (Err (fault_of h)) b1 t0 t2
   halted-act b0 b1 halt.Unfounded h told = failed-act b0 b1 (h.1 ∙ sym h.0) (inl told)
   halted-act b0 b1 (halt.OutOfOrder entry) (b, is, out, e) told = ([], refl, out-book b0 b1 entry b is out e, inl told)
   halted-act b0 b1 halt.Memory h told = failed-act b0 b1 h (inl told)
@@ -132,13 +140,22 @@ module _ (op : LedgerOp) (s : SessionId) (t : Terms) (t0 t2 : Told) where
       subst (λ (y : Book). ActsOn op s t y (Ok d.answer) (if d.changed then Acted op s t ∷ [] else []) b1) (sym (same_some x b is))
       (says, after, ap (λ (c : Bool). if c then Acted op s t ∷ [] else []) changes)
 
-  pub done-act : (b0 b1 : Option Book) (d : Operated) → OperatesOn op s t b0 (Ok d) b1 → (t1 : Told) → Some t1 ≡ Some (asked (Act op s t) [] t0) → t2 ≡ adding (if d.changed then Acted op s t ∷ [] else []) t1 → ActTells op s t b0 (Ok d.answer) b1 t0 t2
-  done-act b0 b1 d (b, is, says, after, changes, may, done) t1 told more = (
+  pub done-act : (b0 b1 : Option Book) (d : Operated) → OperatesOn op s t b0 (Ok d) b1 → Some t2 ≡ Some (asked (Act op s t) (if d.changed then Acted op s t ∷ [] else []) t0) → ActTells op s t b0 (Ok d.answer) b1 t0 t2
+  done-act b0 b1 d (b, is, says, after, changes, may, done) told = (
     (if d.changed then Acted op s t ∷ [] else []),
     may-add (Acted op s t) d.answer d.changed done,
     done-book b0 b1 d (b, is, says, after, changes, may, done),
-    asked-adding (Act op s t) t0 t1 t2 (if d.changed then Acted op s t ∷ [] else []) told more,
+    told,
   )
+
+  -- the genesis that is told after an operation
+  pub done-genesis : (b0 b1 : Option Book) (d : Operated) → OperatesOn op s t b0 (Ok d) b1 → option_map (λ (b : Book). b.genesis) b1 ≡ option_map (λ (b : Book). b.genesis) b0
+  done-genesis b0 b1 d (b, is, says, after, changes, may, done) =
+      ap (option_map (λ (x : Book). x.genesis)) after ∙ (ap (λ (x : Book). Some x.genesis) (operation-after b op s t) ∙ (by_change (operation b op s t).changes ∙ sym (ap (option_map (λ (x : Book). x.genesis)) is)))
+    where
+      by_change : (c : Bool) → Some (book_by c b op s t).genesis ≡ Some b.genesis
+      by_change true = refl
+      by_change false = refl
 
   -- the entries that are told after an operation
   pub done-entries : (b0 b1 : Option Book) (d : Operated) (x y : Entries) → OperatesOn op s t b0 (Ok d) b1 → entries_or b0 x ≡ x → y ≡ (if d.changed then moved_entries x op s t else x) → entries_or b1 y ≡ y
@@ -156,12 +173,3 @@ module _ (op : LedgerOp) (s : SessionId) (t : Terms) (t0 t2 : Told) where
 pub refused-core : (op : LedgerOp) (s : SessionId) (t : Terms) (b new : Book) (fault : CoreFault) → Applies op s t b (Err fault) new → OperatesOn op s t (Some b) (Err (halt_of fault)) (Some new)
 refused-core op s t b new (core.OutOfOrder entry) h = (b, refl, h.0, ap Some h.1)
 refused-core op s t b new core.Memory h = ap Some h
-
-pub halted-count : (h : Halt) (c : Calling) → (halted h c).count ≡ c.count
-halted-count halt.Unfounded c = refl
-halted-count (halt.OutOfOrder entry) c = refl
-halted-count halt.Memory c = refl
-
--- a count of faults that rose tells nothing else
-pub recounted : (t0 t : Told) (call : LedgerCall) (count : ℕ) → count ≡ t.calls → Some t ≡ Some (asked call [] t0) → Some (record t { calls = count }) ≡ Some (asked call [] t0)
-recounted t0 t call count e told = ap Some (counted-told t count t.calls e) ∙ told

@@ -1,39 +1,48 @@
-use Rattle.std.proofs.Common.{◌≡◌, ◌∙◌, [], Err, Some, ap, inl, option_map, refl, subst, sym}
+use Rattle.std.proofs.Common.{◌≡◌, ◌∙◌, [], ◌∷◌, Bool, true, false, Option, Some, None, Err, is_some, ap, inl, inr, option_map, refl, subst, sym}
 use Rattle.satp_base.specs.Acts.{MayRefuse}
-use Rattle.satp_base.specs.Calls.{asked}
+use Rattle.satp_base.specs.Calls.{Ask}
+use Rattle.satp_base.specs.declared.area.Event.TheVariants.{Founded}
 use Rattle.satp_base.specs.declared.ledger.ActFault.{ActFault}
-use Rattle.satp_base.specs.declared.ledger.LedgerCall.TheVariants.{Act}
-use Rattle.satp_memory.specs.Calling.{Calling}
-use Rattle.satp_memory.specs.Sites.{ActTells}
-use Rattle.satp_memory.specs.Steps.{entries_of, told_of}
-use Rattle.satp_memory.proofs.Siting.{done-act, done-entries, entries-same, failed-act, halted-act, halted-count, halted-may, recounted, still}
+use Rattle.satp_base.specs.declared.ledger.LedgerCall.TheVariants.{Act, Found, Look, Raise}
+use Rattle.satp_memory.specs.Calling.{Calling, is_refused}
+use Rattle.satp_memory.specs.FollowingLaws.{follows_then}
+use Rattle.satp_memory.specs.Sites.{ActTells, LedgerFails, same_kind}
+use Rattle.satp_memory.specs.Steps.{asking, entries_of, is_stopped, told_of}
+use Rattle.satp_memory.proofs.Following.{halted_noted, is_some_map, ledger_wanted, site_failed, site_founded, site_halted, site_quiet, site_unfounded}
+use Rattle.satp_memory.proofs.Siting.{asked-adding, asked-failing, asked-none, done-act, done-entries, done-genesis, entries-same, failed-act, halted-act, halted-may, still}
 use Rattle.satp_memory.proofs.site.MemSiteLedger.act.Goals as goal
 
-pub returns-in-Err-find_room-clause-told : goal.returns-in-Err-find_room-clause-told
-returns-in-Err-find_room-clause-told g c =
-    let old = c.args.self.now in
-    let call = Act c.args.op c.args.session c.args.terms.now in
-    let book = option_map g.C.LedgerCore.book old.core in
-    let told : Some (told_of c.find_room.new.self) ≡ Some (asked call [] (told_of old.disk)) = ap Some c.find_room.ensures.told ∙ c.in-Ok.ensures.told in
-    failed-act c.args.op c.args.session c.args.terms.now (told_of old.disk) _ book book refl
-    (inl (recounted (told_of old.disk) (told_of c.find_room.new.self) call c.want.new.self.count (ap (λ (k : Calling). k.count) c.want.ensures.counted) told))
+pub returns-in-Err-clause-told : goal.returns-in-Err-clause-told
+returns-in-Err-clause-told g c =
+    let book = option_map g.C.LedgerCore.book c.args.self.now.core in
+    failed-act c.args.op c.args.session c.args.terms.now _ _ book book refl c.in-Err.ensures.err
+
+pub returns-in-Err-clause-beside : goal.returns-in-Err-clause-beside
+returns-in-Err-clause-beside g c =
+    let before = option_map g.C.LedgerCore.book c.args.self.now.core in
+    site_failed _ before _ _ c.ask.ensures.beside c.ask.ensures.events
+    (subst (λ (b : Bool). LedgerFails (is_refused (is_stopped c.args.self.now.disk) c.args.self.now.disk.calls) b c.args.self.now.disk.calls c.ask.new.self.calls) (c.is_some.ensures ∙ sym (is_some_map g.C.LedgerCore.book c.args.self.now.core)) c.in-Err.ensures.ended)
 
 pub invariant_of-self-in-Ok-operate : goal.invariant_of-self-in-Ok-operate
 invariant_of-self-in-Ok-operate g c =
     let old = c.args.self.now in
     let before = option_map g.C.LedgerCore.book old.core in
-    let same : entries_of c.find_room.new.self ≡ entries_of old.disk =
-    entries-same c.ask.new.self c.find_room.new.self c.find_room.ensures.past c.find_room.ensures.events ∙ entries-same old.disk c.ask.new.self c.ask.ensures.past c.ask.ensures.events in
     record {
       one = done-entries c.args.op c.args.session c.args.terms.now (told_of old.disk) (told_of old.disk) before (option_map g.C.LedgerCore.book c.operate.new.core) c.in-Ok-operate.done
-          (entries_of c.find_room.new.self) (entries_of c.note_change.new.self) c.in-Ok-operate.ensures (still before (entries_of old.disk) (entries_of c.find_room.new.self) same old.one) c.note_change.ensures.entries;
+          (entries_of c.ask.new.self) (entries_of c.answer.new.self) c.in-Ok-operate.ensures (still before (entries_of old.disk) (entries_of c.ask.new.self) (entries-same old.disk c.ask.new.self c.ask.ensures.past c.ask.ensures.events) old.one) c.answer.ensures.entries;
     }
 
 pub returns-in-Ok-operate-clause-told : goal.returns-in-Ok-operate-clause-told
 returns-in-Ok-operate-clause-told g c =
     let old = c.args.self.now in
-    done-act c.args.op c.args.session c.args.terms.now (told_of old.disk) (told_of c.note_change.new.self) (option_map g.C.LedgerCore.book old.core) (option_map g.C.LedgerCore.book c.operate.new.core)
-    c.in-Ok-operate.done c.in-Ok-operate.ensures (told_of c.find_room.new.self) (ap Some c.find_room.ensures.told ∙ c.in-Ok.ensures.told) c.note_change.ensures.told
+    done-act c.args.op c.args.session c.args.terms.now (told_of old.disk) (told_of c.answer.new.self) (option_map g.C.LedgerCore.book old.core) (option_map g.C.LedgerCore.book c.operate.new.core)
+    c.in-Ok-operate.done c.in-Ok-operate.ensures (asked-adding (Act c.args.op c.args.session c.args.terms.now) _ _ _ c.in-Ok.ask c.in-Ok.ensures.ok.0 c.in-Ok.ensures.ok.1 _ c.answer.ensures.told)
+
+pub returns-in-Ok-operate-clause-beside : goal.returns-in-Ok-operate-clause-beside
+returns-in-Ok-operate-clause-beside g c =
+    let old = c.args.self.now in
+    site_quiet _ (option_map g.C.LedgerCore.book old.core) (option_map g.C.LedgerCore.book c.operate.new.core) _ _ (follows_then _ _ _ c.ask.ensures.beside c.answer.ensures.beside) (ap (λ (k : Calling). k.faults) (c.answer.ensures.calls ∙ c.in-Ok.ensures.ended.2))
+    (done-genesis c.args.op c.args.session c.args.terms.now (told_of old.disk) (told_of old.disk) _ _ c.in-Ok-operate.done c.in-Ok-operate.ensures)
 
 pub returns-in-Err-operate-clause-told : goal.returns-in-Err-operate-clause-told
 returns-in-Err-operate-clause-told g c =
@@ -41,17 +50,22 @@ returns-in-Err-operate-clause-told g c =
     let op = c.args.op in
     let s = c.args.session in
     let t = c.args.terms.now in
-    let t0 = told_of old.disk in
-    let t2 = record (told_of c.find_room.new.self) { calls = c.halt.new.self.count } in
     let b0 = option_map g.C.LedgerCore.book old.core in
     let b1 = option_map g.C.LedgerCore.book c.operate.new.core in
-    let told : Some (told_of c.find_room.new.self) ≡ Some (asked (Act op s t) [] t0) = ap Some c.find_room.ensures.told ∙ c.in-Ok.ensures.told in
-    subst (λ (f : ActFault). ActTells op s t b0 (Err f) b1 t0 t2) (sym c.halt.ensures.fault)
-    (halted-act op s t t0 t2 b0 b1 c.in-Err-operate.halt c.in-Err-operate.ensures
-    (recounted t0 (told_of c.find_room.new.self) (Act op s t) c.halt.new.self.count (ap (λ (k : Calling). k.count) c.halt.ensures.counted ∙ halted-count c.in-Err-operate.halt c.find_room.new.self.calls) told))
+    subst (λ (f : ActFault). ActTells op s t b0 (Err f) b1 (told_of old.disk) (told_of c.halt.new.self)) (sym c.halt.ensures.fault)
+    (halted-act op s t (told_of old.disk) (told_of c.halt.new.self) b0 b1 c.in-Err-operate.halt c.in-Err-operate.ensures (asked-failing (Act op s t) _ _ _ c.in-Ok.ask c.in-Ok.ensures.ok.0 c.in-Ok.ensures.ok.1 c.halt.ensures.told))
 
 pub returns-in-Err-operate-clause-refused : goal.returns-in-Err-operate-clause-refused
 returns-in-Err-operate-clause-refused g c =
     let old = c.args.self.now in
     subst (MayRefuse c.args.op) (sym c.halt.ensures.fault)
     (halted-may c.args.op c.args.session c.args.terms.now (told_of old.disk) (told_of old.disk) (option_map g.C.LedgerCore.book old.core) (option_map g.C.LedgerCore.book c.operate.new.core) c.in-Err-operate.halt c.in-Err-operate.ensures)
+
+pub returns-in-Err-operate-clause-ended : goal.returns-in-Err-operate-clause-ended
+returns-in-Err-operate-clause-ended g c = ?
+
+pub returns-in-Err-operate-clause-beside : goal.returns-in-Err-operate-clause-beside
+returns-in-Err-operate-clause-beside g c =
+    let old = c.args.self.now in
+    site_halted _ c.args.op c.args.session c.args.terms.now (option_map g.C.LedgerCore.book old.core) (option_map g.C.LedgerCore.book c.operate.new.core) c.in-Err-operate.halt _ _ c.ask.new.self.calls (follows_then _ _ _ c.ask.ensures.beside c.halt.ensures.beside)
+    c.in-Err-operate.ensures c.ask.ensures.beside.wants c.halt.ensures.calls (halted_noted _ _ _ _ _ c.halt.ensures.asks c.in-Ok.ensures.asks c.in-Ok.ensures.ok.0)

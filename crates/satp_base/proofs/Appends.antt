@@ -142,6 +142,21 @@ module _ (IsShut : ℕ → Type 0) (zero_shuts : IsShut 0) where
       abbrev whole_of : Area → List Event
       whole_of area = append_events area (length (records payloads)) q
 
+      -- the write of the frame and its sync leave the gate closed
+      before_gate : (area : Area) (n : ℕ) (c : List ℕ) → Leaves (fold (next area) s (take n (take 2 (whole_of area)))) c → Ends payloads c
+      before_gate area zero c leaves = closed c leaves
+      before_gate area (suc zero) c leaves = in_one c (subst (λ (st : Standing). Leaves st c) folded leaves)
+        where
+          folded : fold (next area) s (take 1 (take 2 (whole_of area))) ≡ one
+          folded = rw (same_area_refl area) refl
+      before_gate area (suc (suc n)) c leaves = in_two c (subst (λ (st : Standing). Leaves st c) folded leaves)
+        where
+          folded : fold (next area) s (take (suc (suc n)) (take 2 (whole_of area))) ≡ settled one.now
+          folded = rw (same_area_refl area, take_nil n) refl
+
+      cut_before_gate : (area : Area) (events : List Event) → IsCut (take 2 (whole_of area)) events → KeepsFrom area s events → (c : List ℕ) → Leaves (fold (next area) s events) c → Ends payloads c
+      cut_before_gate area events cut keeps c leaves = before_gate area cut.0 c (cut_leaves area (take 2 (whole_of area)) s events cut keeps c leaves)
+
       fold_states : (area : Area) (n : ℕ) → fold (next area) s (take n (whole_of area)) ≡ states n
       fold_states area zero = refl
       fold_states area (suc zero) = rw (same_area_refl area) refl
@@ -149,7 +164,30 @@ module _ (IsShut : ℕ → Type 0) (zero_shuts : IsShut 0) where
       fold_states area (suc (suc (suc zero))) = rw (same_area_refl area) refl
       fold_states area (suc (suc (suc (suc n)))) = rw (same_area_refl area, take_nil n) refl
 
-      in_cut : (area : Area) (events : List Event) → IsCut area (whole_of area) events → KeepsFrom area s events → (c : List ℕ) → Leaves (fold (next area) s events) c → Stores payloads q c
+      all_four : (n : ℕ) (c : List ℕ) → 4 ≤ n → Leaves (states n) c → EndsAt payloads 1 (counted q ++ 0 ∷ staged.0) c
+      all_four zero c le leaves = absurd (omega (arith, le))
+      all_four (suc zero) c le leaves = absurd (omega (arith, le))
+      all_four (suc (suc zero)) c le leaves = absurd (omega (arith, le))
+      all_four (suc (suc (suc zero))) c le leaves = absurd (omega (arith, le))
+      all_four (suc (suc (suc (suc n)))) c le leaves = in_four c leaves
+
+      -- the whole append is among these events
+      four_of : (area : Area) (events more : List Event) → (cut : IsCut (whole_of area) events) → events ≡ whole_of area ++ more → 4 ≤ cut.0
+      four_of area events more (zero, inl is) e = absurd cc
+      four_of area events more (zero, inr (a, bytes, of, is)) e = absurd cc
+      four_of area events more (suc zero, inl is) e = absurd cc
+      four_of area events more (suc zero, inr (a, bytes, of, is)) e = absurd cc
+      four_of area events more (suc (suc zero), inl is) e = absurd cc
+      four_of area events more (suc (suc zero), inr (a, bytes, of, is)) e = absurd cc
+      four_of area events more (suc (suc (suc zero)), inl is) e = absurd cc
+      four_of area events more (suc (suc (suc zero)), inr (a, bytes, of, is)) e = absurd cc
+      four_of area events more (suc (suc (suc (suc n))), is) e = omega arith
+
+      cut_after : (area : Area) (events more : List Event) → IsCut (whole_of area) events → events ≡ whole_of area ++ more → KeepsFrom area s events → (c : List ℕ) → Leaves (fold (next area) s events) c → EndsAt payloads 1 (counted q ++ 0 ∷ staged.0) c
+      cut_after area events more cut all keeps c leaves =
+          all_four cut.0 c (four_of area events more cut all) (subst (λ (st : Standing). Leaves st c) (fold_states area cut.0) (cut_leaves area (whole_of area) s events cut keeps c leaves))
+
+      in_cut : (area : Area) (events : List Event) → IsCut (whole_of area) events → KeepsFrom area s events → (c : List ℕ) → Leaves (fold (next area) s events) c → Stores payloads q c
       in_cut area events cut keeps c leaves =
           in_states cut.0 c (subst (λ (st : Standing). Leaves st c) (fold_states area cut.0) (cut_leaves area (whole_of area) s events cut keeps c leaves))
 
@@ -167,13 +205,23 @@ module _ (IsShut : ℕ → Type 0) (zero_shuts : IsShut 0) where
     sound : IsSound s
     sound = sound_along area t.events _ (sound-settled (t.start area))
 
-    pub stores_leave : (events : List Event) → IsCut area (append_events area (length (records payloads)) q) events → KeepsModel (extended t events) → (image : List ℕ) → IsImage (extended t events) area image → Stores payloads q image
-    stores_leave events cut keeps image is =
-        let split = keeps_split area (settled (t.start area)) t.events events (keeps area) in
-        in_cut payloads q s sound (reads_along area t.events _ (here_settled (t.start area)) split.0) all ok area events cut split.1 image
-        (subst (λ (st : Standing). Leaves st image) (fold-append (next area) (settled (t.start area)) t.events events) is)
+    here_at : (events : List Event) → KeepsModel (extended t events) → (Leaves s s.now) × KeepsFrom area s events
+    here_at events keeps = let split = keeps_split area (settled (t.start area)) t.events events (keeps area) in (reads_along area t.events _ (here_settled (t.start area)) split.0, split.1)
 
-    pub stores_end : KeepsModel t → (image : List ℕ) → IsImage (extended t (append_events area (length (records payloads)) q)) area image → (behind : List ℕ) × EndsAt (payloads ++ q ∷ []) 0 behind image
-    stores_end keeps image is =
-        let here = reads_along area t.events _ (here_settled (t.start area)) (keeps area) in
-        (_, at_end payloads q s sound here all ok area image (subst (λ (st : Standing). Leaves st image) (fold-append (next area) (settled (t.start area)) t.events _) is))
+    from_here : (events : List Event) (image : List ℕ) → IsImage (extended t events) area image → Leaves (fold (next area) s events) image
+    from_here events image is = subst (λ (st : Standing). Leaves st image) (fold-append (next area) (settled (t.start area)) t.events events) is
+
+    abbrev whole : List Event
+    whole = append_events area (length (records payloads)) q
+
+    pub stores_leave : (events : List Event) → IsCut whole events → KeepsModel (extended t events) → (image : List ℕ) → IsImage (extended t events) area image → Stores payloads q image
+    stores_leave events cut keeps image is = let h = here_at events keeps in in_cut payloads q s sound h.0 all ok area events cut h.1 image (from_here events image is)
+
+    pub stores_before : (events : List Event) → IsCut (take 2 whole) events → KeepsModel (extended t events) → (image : List ℕ) → IsImage (extended t events) area image → Ends payloads image
+    stores_before events cut keeps image is = let h = here_at events keeps in cut_before_gate payloads q s sound h.0 all ok area events cut h.1 image (from_here events image is)
+
+    pub stores_after : (events more : List Event) → IsCut whole events → events ≡ whole ++ more → KeepsModel (extended t events) → (image : List ℕ) → IsImage (extended t events) area image → (behind : List ℕ) × EndsAt payloads 1 (counted q ++ 0 ∷ behind) image
+    stores_after events more cut begins keeps image is = let h = here_at events keeps in (_, cut_after payloads q s sound h.0 all ok area events more cut begins h.1 image (from_here events image is))
+
+    pub stores_end : KeepsModel t → (image : List ℕ) → IsImage (extended t whole) area image → (behind : List ℕ) × EndsAt (payloads ++ q ∷ []) 0 behind image
+    stores_end keeps image is = let here = reads_along area t.events _ (here_settled (t.start area)) (keeps area) in (_, at_end payloads q s sound here all ok area image (from_here whole image is))

@@ -1,14 +1,13 @@
 -- What the ends of images mean for the lists that they stand for.
 use Rattle.std.proofs.Common.{◌≡◌, ◌≢◌, ◌⊎◌, ℕ, List, [], ◌∷◌, ◌++◌, length, refl, sym, ap, ◌∙◌, subst, inl, inr, ⊎_elim, arith, length-append}
+use Rattle.std.proofs.Math.Seq.{get_or-append_seam}
 use Rattle.std.proofs.lemmas.Bool.{cases_eq, cases_lt}
-use Rattle.satp_base.specs.Format.{IsPayload, counted, records, EndsAt, Stands, IsMendable, IsClosed, IsAtRest}
+use Rattle.satp_base.specs.Format.{IsPayload, counted, records, EndsAt, Stands, StandsOpened, IsMendable, IsClosed, IsAtRest}
 use Rattle.satp_base.specs.declared.area.Area.{Area}
-use Rattle.satp_base.specs.declared.area.Event.{Event}
-use Rattle.satp_base.specs.Trail.{Trail, extended, IsImage, KeepsModel}
-use Rattle.satp_base.specs.Segments.{IsCut, append_events}
-use Rattle.satp_base.specs.Laws.{IsInAppend, RestsAt}
-use Rattle.satp_base.proofs.Appends.{longer_ends, Stores, AllEnd, stores_leave, stores_end}
-use Rattle.satp_base.proofs.Readings.{one_end}
+use Rattle.satp_base.specs.Trail.{Trail}
+use Rattle.satp_base.specs.Laws.{IsInAppend, RestsAt, GateDecides, gate_byte, InAppendReads, AppendLeaves, AppendDecides, AppendEnds}
+use Rattle.satp_base.proofs.Appends.{longer_ends, Stores, AllEnd, stores_leave, stores_before, stores_after, stores_end}
+use Rattle.satp_base.proofs.Readings.{one_list}
 
 -- a closed gate ends the list
 pub stands_closed : (payloads : List (List ℕ)) (gate : ℕ) (behind image : List ℕ) → gate ≢ 1 → EndsAt payloads gate behind image → Stands image payloads
@@ -40,52 +39,77 @@ stores_stand IsShut zero_shuts payloads q image closes ok (inr (gate, behind, en
 abbrev pub Zero : ℕ → Type 0
 Zero gate = gate ≡ 0
 
--- an image of an append at a gate that is 0
-module _ (payloads : List (List ℕ)) (q image : List ℕ) (ok : IsPayload q) where
-  closes : (gate : ℕ) → gate ≡ 0 → gate ≢ 1
-  closes gate is = rw is (λ e. cc)
+-- ---- an image of an append at a gate that is 0
 
+pub in_append : (payloads : List (List ℕ)) (q image : List ℕ) → Stores Zero refl payloads q image → IsInAppend payloads q image
+in_append payloads q image (inl (gate, behind, is, ends)) = inl (behind, subst (λ (n : ℕ). EndsAt payloads n behind image) is ends)
+in_append payloads q image (inr stored) = inr stored
+
+pub gate_is : (payloads : List (List ℕ)) (gate : ℕ) (behind image : List ℕ) → EndsAt payloads gate behind image → gate_byte payloads image ≡ gate
+gate_is payloads gate behind image ends = rw ends.bytes (get_or-append_seam (records payloads) gate behind 0)
+
+module _ (payloads : List (List ℕ)) (q image : List ℕ) (ok : IsPayload q) where
   abbrev longer : List (List ℕ)
   longer = payloads ++ q ∷ []
 
-  with_one : (behind : List ℕ) → IsAtRest payloads (records payloads ++ 0 ∷ (counted q ++ 0 ∷ behind)) → Stands (records payloads ++ 1 ∷ (counted q ++ 0 ∷ behind)) longer
-  with_one behind (b, e) = rest_stands longer _ (behind, longer_ends payloads q behind _ ok (record { valid = e.valid; bytes = refl }))
+  not_both : Stands image payloads → Stands image longer → ⊥
+  not_both a b = omega (arith, ap length (one_list image payloads longer a b), length-append payloads (q ∷ []))
 
-  one_is : (gate : ℕ) (behind : List ℕ) → EndsAt payloads gate (counted q ++ 0 ∷ behind) image → Stands (records payloads ++ 1 ∷ (counted q ++ 0 ∷ behind)) longer
-  one_is gate behind ends = with_one behind (counted q ++ 0 ∷ behind, record { valid = ends.valid; bytes = refl })
+  with_one : (behind : List ℕ) → EndsAt payloads 1 (counted q ++ 0 ∷ behind) image → IsAtRest longer image
+  with_one behind ends = (behind, longer_ends payloads q behind image ok ends)
 
-  mends : Stores Zero refl payloads q image → IsMendable image
-  mends (inl (gate, behind, is, ends)) = inr (inl (payloads, (behind, subst (λ (n : ℕ). EndsAt payloads n behind image) is ends)))
-  mends (inr (gate, behind, ends)) = ⊎_elim opens shuts (cases_eq gate 1)
+  opened : (gate : ℕ) (behind : List ℕ) → gate ≢ 1 → EndsAt payloads gate (counted q ++ 0 ∷ behind) image → StandsOpened image longer
+  opened gate behind shut ends =
+      let e : EndsAt payloads 1 (counted q ++ 0 ∷ behind) (records payloads ++ 1 ∷ (counted q ++ 0 ∷ behind)) = record { valid = ends.valid; bytes = refl } in
+      (payloads, gate, counted q ++ 0 ∷ behind, shut, ends, rest_stands longer _ (behind, longer_ends payloads q behind _ ok e))
+
+  decides_before : (gate : ℕ) → gate ≢ 1 → gate_byte payloads image ≡ gate → Stands image payloads → IsMendable image → GateDecides payloads q image
+  decides_before gate shut is stands mends = record {
+    longer = (λ s. absurd (not_both stands s), λ e. absurd (shut (sym is ∙ e)));
+    before = (λ s e. shut (sym is ∙ e), λ other. stands);
+    mends = mends;
+  }
+
+  decides_longer : gate_byte payloads image ≡ 1 → Stands image longer → IsMendable image → GateDecides payloads q image
+  decides_longer is stands mends = record {
+    longer = (λ s. is, λ e. stands);
+    before = (λ s. absurd (not_both s stands), λ other. absurd (other is));
+    mends = mends;
+  }
+
+  pub gate_decides : IsInAppend payloads q image → GateDecides payloads q image
+  gate_decides (inl (behind, ends)) = decides_before 0 (λ e. cc) (gate_is payloads 0 behind image ends) (rest_stands payloads image (behind, ends)) (inr (inl (payloads, (behind, ends))))
+  gate_decides (inr (gate, behind, ends)) = ⊎_elim open_gate shut_gate (cases_eq gate 1)
     where
-      opens : gate ≡ 1 → IsMendable image
-      opens is = inr (inl (longer, (behind, longer_ends payloads q behind image ok (subst (λ (n : ℕ). EndsAt payloads n (counted q ++ 0 ∷ behind) image) is ends))))
+      open_gate : gate ≡ 1 → GateDecides payloads q image
+      open_gate is =
+          let rest = with_one behind (subst (λ (n : ℕ). EndsAt payloads n (counted q ++ 0 ∷ behind) image) is ends) in
+          decides_longer (gate_is payloads gate (counted q ++ 0 ∷ behind) image ends ∙ is) (rest_stands longer image rest) (inr (inl (longer, rest)))
 
-      shuts : gate ≢ 1 → IsMendable image
-      shuts shut = inr (inr (longer, (payloads, gate, counted q ++ 0 ∷ behind, shut, ends, one_is gate behind ends)))
+      shut_gate : gate ≢ 1 → GateDecides payloads q image
+      shut_gate shut = decides_before gate shut (gate_is payloads gate (counted q ++ 0 ∷ behind) image ends) (stands_closed payloads gate (counted q ++ 0 ∷ behind) image shut ends) (inr (inr (longer, opened gate behind shut ends)))
 
-  opened : Stores Zero refl payloads q image → (list : List (List ℕ)) (gate : ℕ) (behind : List ℕ) → gate ≢ 0 → gate ≢ 1 → EndsAt list gate behind image → Stands (records list ++ 1 ∷ behind) longer
-  opened (inl (g, b, is, e)) list gate behind some shut ends = absurd (some ((one_end list payloads gate g behind b image ends e (inl shut) (inl (closes g is))).gate ∙ is))
-  opened (inr (g, b, e)) list gate behind some shut ends = ⊎_elim opens shuts (cases_eq g 1)
-    where
-      opens : g ≡ 1 → Stands (records list ++ 1 ∷ behind) longer
-      opens is = absurd (some (one_end list longer gate 0 behind b image ends (longer_ends payloads q b image ok (subst (λ (n : ℕ). EndsAt payloads n (counted q ++ 0 ∷ b) image) is e)) (inl shut) (inl (λ x. cc))).gate)
+  -- one of the two lists is there
+  pub either_stands : IsInAppend payloads q image → Stands image payloads ⊎ Stands image longer
+  either_stands is = let d = gate_decides is in ⊎_elim (λ one. inr (d.longer.1 one)) (λ other. inl (d.before.1 other)) (cases_eq (gate_byte payloads image) 1)
 
-      shuts : g ≢ 1 → Stands (records list ++ 1 ∷ behind) longer
-      shuts other =
-          let same = one_end list payloads gate g behind (counted q ++ 0 ∷ b) image ends e (inl shut) (inl other) in
-          subst (λ (l : List ℕ). Stands l longer) (sym (ap (λ (l : List (List ℕ)). records l ++ 1 ∷ behind) same.payloads ∙ ap (λ (l : List ℕ). records payloads ++ 1 ∷ l) same.behind)) (one_is g b e)
-
-  pub in_append : Stores Zero refl payloads q image → IsInAppend payloads q image
-  in_append stores = record { list = stores_stand Zero refl payloads q image closes ok stores; mends = mends stores; opened = opened stores }
+pub in_append_reads : InAppendReads
+in_append_reads payloads q image ok is = gate_decides payloads q image ok is
 
 rest_ends : (t : Trail) (area : Area) (payloads : List (List ℕ)) → RestsAt t area payloads → AllEnd Zero refl t area payloads
 rest_ends t area payloads rests image is = let r = rests image is in (0, r.0, refl, r.1)
 
-pub append_leaves : (t : Trail) (area : Area) (payloads : List (List ℕ)) (q : List ℕ) (events : List Event) → IsPayload q → RestsAt t area payloads → IsCut area (append_events area (length (records payloads)) q) events
-    → KeepsModel (extended t events) → (image : List ℕ) → IsImage (extended t events) area image → IsInAppend payloads q image
-append_leaves t area payloads q events ok rests cut keeps image is = in_append payloads q image ok (stores_leave Zero refl t area payloads q ok (rest_ends t area payloads rests) events cut keeps image is)
+pub append_leaves : AppendLeaves
+append_leaves t area payloads q events ok rests cut keeps image is = in_append payloads q image (stores_leave Zero refl t area payloads q ok (rest_ends t area payloads rests) events cut keeps image is)
 
-pub append_ends : (t : Trail) (area : Area) (payloads : List (List ℕ)) (q : List ℕ) → IsPayload q → RestsAt t area payloads → KeepsModel t
-    → RestsAt (extended t (append_events area (length (records payloads)) q)) area (payloads ++ q ∷ [])
+pub append_decides : AppendDecides
+append_decides t area payloads q events ok rests cut keeps image is = (
+  gate_decides payloads q image ok (append_leaves t area payloads q events ok rests cut keeps image is),
+  record {
+    before = λ early. let r = stores_before Zero refl t area payloads q ok (rest_ends t area payloads rests) events early keeps image is in gate_is payloads r.0 r.1 image r.3 ∙ r.2;
+    after = λ more begins. let r = stores_after Zero refl t area payloads q ok (rest_ends t area payloads rests) events more cut begins keeps image is in gate_is payloads 1 (counted q ++ 0 ∷ r.0) image r.1;
+  },
+)
+
+pub append_ends : AppendEnds
 append_ends t area payloads q ok rests keeps image is = stores_end Zero refl t area payloads q ok (rest_ends t area payloads rests) keeps image is

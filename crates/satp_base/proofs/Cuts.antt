@@ -1,106 +1,107 @@
 -- Cuts of lists of events.
-use Rattle.std.proofs.Common.{◌≡◌, ◌≤◌, ◌<◌, ◌⊎◌, ℕ, ◌+◌, ◌-◌, min, List, [], ◌∷◌, ◌++◌, length, take, refl, sym, ap, ◌∙◌, subst, inl, inr, ⊎_elim, arith, append_assoc, length-append}
+use Rattle.std.proofs.Common.{◌≡◌, ◌≤◌, ◌<◌, ◌⊎◌, ℕ, ◌+◌, ◌-◌, min, List, [], ◌∷◌, ◌++◌, length, take, Some, refl, sym, ap, ◌∙◌, subst, inl, inr, ⊎_elim, arith, append_assoc, length-append}
 use Rattle.std.proofs.lemmas.List.{append-nil, length-take, take_all, take-take, take-append-le, take_min}
 use Rattle.std.proofs.Math.Seq.{take-append-add, take-append_seam}
 use Rattle.std.proofs.lemmas.Bool.{cases_lt}
 use Rattle.satp_base.specs.declared.area.Area.{Area}
 use Rattle.satp_base.specs.declared.area.Event.{Event}
 use Rattle.satp_base.specs.declared.area.Event.TheVariants.{Left}
-use Rattle.satp_base.specs.Segments.{EndsInChange, IsCut}
+use Rattle.satp_base.specs.Segments.{IsCut, last_area}
 
-module _ (area : Area) where
-  abbrev with_left : List ℕ → List Event → List Event
-  with_left bytes es = es ++ Left area bytes ∷ []
+-- a `Left` of the area that these events end in
+abbrev EndsIn : Area → List Event → Type 0
+EndsIn area events = last_area events ≡ Some area
 
-  ends_of : (xs : List Event) (y : Event) (ys : List Event) → EndsInChange area (xs ++ y ∷ ys) → EndsInChange area (y ∷ ys)
-  ends_of [] y ys h = h
-  ends_of (x ∷ []) y ys h = h
-  ends_of (x ∷ z ∷ xs) y ys h = ends_of (z ∷ xs) y ys h
+abbrev with_left : Area → List ℕ → List Event → List Event
+with_left area bytes es = es ++ Left area bytes ∷ []
 
-  ends_split : (xs ys : List Event) → EndsInChange area (xs ++ ys) → ((ys ≡ []) × EndsInChange area xs) ⊎ EndsInChange area ys
-  ends_split xs [] h = inl (refl, subst (EndsInChange area) (append-nil xs) h)
-  ends_split xs (y ∷ ys) h = inr (ends_of xs y ys h)
+pub last_of : (xs : List Event) (y : Event) (ys : List Event) → last_area (xs ++ y ∷ ys) ≡ last_area (y ∷ ys)
+last_of [] y ys = refl
+last_of (x ∷ []) y ys = refl
+last_of (x ∷ z ∷ xs) y ys = last_of (z ∷ xs) y ys
 
-  pub ends_behind : (xs ys : List Event) → EndsInChange area ys → EndsInChange area (xs ++ ys)
-  ends_behind [] ys h = h
-  ends_behind (x ∷ xs) [] h = absurd h
-  ends_behind (x ∷ []) (y ∷ ys) h = h
-  ends_behind (x ∷ z ∷ xs) (y ∷ ys) h = ends_behind (z ∷ xs) (y ∷ ys) h
+ends_split : (area : Area) (xs ys : List Event) → EndsIn area (xs ++ ys) → ((ys ≡ []) × EndsIn area xs) ⊎ EndsIn area ys
+ends_split area xs [] h = inl (refl, subst (EndsIn area) (append-nil xs) h)
+ends_split area xs (y ∷ ys) h = inr (sym (last_of xs y ys) ∙ h)
 
-  -- behind n of the first list and the second
-  past : (xs ys : List Event) (n : ℕ) → length xs ≤ n → take n (xs ++ ys) ≡ xs ++ take (n - length xs) ys
-  past xs ys n le =
-      let whole : length xs + (n - length xs) ≡ n = omega (arith, le) in
-      ap (λ (i : ℕ). take i (xs ++ ys)) (sym whole) ∙ take-append-add xs ys (n - length xs)
+ends_after : (area : Area) (xs ys : List Event) → EndsIn area ys → EndsIn area (xs ++ ys)
+ends_after area xs [] h = absurd cc
+ends_after area xs (y ∷ ys) h = last_of xs y ys ∙ h
 
-  abbrev Either : List Event → List Event → List Event → Type 0
-  Either xs ys es = IsCut area xs es ⊎ ((fs : List Event) × IsCut area ys fs × (es ≡ xs ++ fs))
+-- n of two lists, where these are more than the first
+past : (xs ys : List Event) (n : ℕ) → length xs ≤ n → take n (xs ++ ys) ≡ xs ++ take (n - length xs) ys
+past xs ys n le =
+    let whole : length xs + (n - length xs) ≡ n = omega (arith, le) in
+    ap (λ (i : ℕ). take i (xs ++ ys)) (sym whole) ∙ take-append-add xs ys (n - length xs)
 
-  -- a cut of two lists is one of the first, or the first and a cut of the second
-  pub cut_append : (xs ys es : List Event) → IsCut area (xs ++ ys) es → Either xs ys es
-  cut_append xs ys es (n, inl is) = ⊎_elim beyond within (cases_lt (length xs) n)
-    where
-      beyond : length xs < n → Either xs ys es
-      beyond lt = inr (take (n - length xs) ys, (n - length xs, inl refl), is ∙ past xs ys n (omega (arith, lt)))
+abbrev Either : List Event → List Event → List Event → Type 0
+Either xs ys es = IsCut xs es ⊎ ((fs : List Event) × IsCut ys fs × (es ≡ xs ++ fs))
 
-      within : n ≤ length xs → Either xs ys es
-      within le = inl (n, inl (is ∙ take-append-le n xs ys le))
-  cut_append xs ys es (n, inr (bytes, change, is)) = ⊎_elim beyond within (cases_lt (length xs) n)
-    where
-      within : n ≤ length xs → Either xs ys es
-      within le = let front = take-append-le n xs ys le in inl (n, inr (bytes, subst (EndsInChange area) front change, is ∙ ap (with_left bytes) front))
+-- a cut of two lists is one of the first, or the first and a cut of the second
+pub cut_append : (xs ys es : List Event) → IsCut (xs ++ ys) es → Either xs ys es
+cut_append xs ys es (n, inl is) = ⊎_elim beyond within (cases_lt (length xs) n)
+  where
+    beyond : length xs < n → Either xs ys es
+    beyond lt = inr (take (n - length xs) ys, (n - length xs, inl refl), is ∙ past xs ys n (omega (arith, lt)))
 
-      at_seam : take (n - length xs) ys ≡ [] → es ≡ with_left bytes (xs ++ take (n - length xs) ys) → EndsInChange area xs → Either xs ys es
-      at_seam none whole h =
-          inl (length xs, inr (bytes, subst (EndsInChange area) (sym (take_all (length xs) xs (omega arith))) h, whole ∙ ap (λ (l : List Event). with_left bytes (xs ++ l)) none ∙ ap (with_left bytes) (append-nil xs ∙ sym (take_all (length xs) xs (omega arith)))))
+    within : n ≤ length xs → Either xs ys es
+    within le = inl (n, inl (is ∙ take-append-le n xs ys le))
+cut_append xs ys es (n, inr (area, bytes, change, is)) = ⊎_elim beyond within (cases_lt (length xs) n)
+  where
+    within : n ≤ length xs → Either xs ys es
+    within le = let front = take-append-le n xs ys le in inl (n, inr (area, bytes, subst (EndsIn area) front change, is ∙ ap (with_left area bytes) front))
 
-      beyond : length xs < n → Either xs ys es
-      beyond lt =
-          let front = past xs ys n (omega (arith, lt)) in
-          let whole = is ∙ ap (with_left bytes) front in
-          ⊎_elim (λ none. at_seam none.0 whole none.1) (λ h. inr (with_left bytes (take (n - length xs) ys), (n - length xs, inr (bytes, h, refl)), whole ∙ append_assoc xs _ _))
-          (ends_split xs (take (n - length xs) ys) (subst (EndsInChange area) front change))
+    at_seam : take (n - length xs) ys ≡ [] → es ≡ with_left area bytes (xs ++ take (n - length xs) ys) → EndsIn area xs → Either xs ys es
+    at_seam none whole h =
+        inl (length xs, inr (area, bytes, subst (EndsIn area) (sym (take_all (length xs) xs (omega arith))) h, whole ∙ ap (λ (l : List Event). with_left area bytes (xs ++ l)) none ∙ ap (with_left area bytes) (append-nil xs ∙ sym (take_all (length xs) xs (omega arith)))))
 
-  -- the front of a cut is a cut
-  pub cut_front : (whole es : List Event) → IsCut area whole es → (n : ℕ) → IsCut area whole (take n es)
-  cut_front whole es (m, inl is) n = ⊎_elim shorter same (cases_lt n m)
-    where
-      shorter : n < m → IsCut area whole (take n es)
-      shorter lt = (n, inl (ap (take n) is ∙ take-take n m whole (omega (arith, lt))))
+    beyond : length xs < n → Either xs ys es
+    beyond lt =
+        let front = past xs ys n (omega (arith, lt)) in
+        let whole = is ∙ ap (with_left area bytes) front in
+        ⊎_elim (λ none. at_seam none.0 whole none.1) (λ h. inr (with_left area bytes (take (n - length xs) ys), (n - length xs, inr (area, bytes, h, refl)), whole ∙ append_assoc xs _ _))
+        (ends_split area xs (take (n - length xs) ys) (subst (EndsIn area) front change))
 
-      same : m ≤ n → IsCut area whole (take n es)
-      same le = (m, inl (take_all n es (rw is (omega (arith, le, length-take m whole))) ∙ is))
-  cut_front whole es (m, inr (bytes, change, is)) n = ⊎_elim shorter same (cases_lt n (length es))
-    where
-      long : length es ≡ min m (length whole) + 1
-      long = ap length is ∙ length-append (take m whole) (Left area bytes ∷ []) ∙ ap (λ (i : ℕ). i + 1) (length-take m whole)
+-- the prefix of a cut is a cut
+pub cut_front : (whole es : List Event) → IsCut whole es → (n : ℕ) → IsCut whole (take n es)
+cut_front whole es (m, inl is) n = ⊎_elim shorter same (cases_lt n m)
+  where
+    shorter : n < m → IsCut whole (take n es)
+    shorter lt = (n, inl (ap (take n) is ∙ take-take n m whole (omega (arith, lt))))
 
-      shorter : n < length es → IsCut area whole (take n es)
-      shorter lt =
-          (n, inl (ap (take n) is ∙ take-append-le n (take m whole) (Left area bytes ∷ []) (omega (arith, lt, long, length-take m whole)) ∙ take-take n m whole (omega (arith, lt, long))))
+    same : m ≤ n → IsCut whole (take n es)
+    same le = (m, inl (take_all n es (rw is (omega (arith, le, length-take m whole))) ∙ is))
+cut_front whole es (m, inr (area, bytes, change, is)) n = ⊎_elim shorter same (cases_lt n (length es))
+  where
+    long : length es ≡ min m (length whole) + 1
+    long = ap length is ∙ length-append (take m whole) (Left area bytes ∷ []) ∙ ap (λ (i : ℕ). i + 1) (length-take m whole)
 
-      same : length es ≤ n → IsCut area whole (take n es)
-      same le = (m, inr (bytes, change, take_all n es le ∙ is))
+    shorter : n < length es → IsCut whole (take n es)
+    shorter lt =
+        (n, inl (ap (take n) is ∙ take-append-le n (take m whole) (Left area bytes ∷ []) (omega (arith, lt, long, length-take m whole)) ∙ take-take n m whole (omega (arith, lt, long))))
 
-  -- a cut of the first of two lists is one of both
-  pub cut_left : (xs ys es : List Event) → IsCut area xs es → IsCut area (xs ++ ys) es
-  cut_left xs ys es (n, cut) = (min n (length xs), ⊎_elim (λ is. inl (is ∙ front)) (λ left. inr (left.0, subst (EndsInChange area) front left.1, left.2 ∙ ap (with_left left.0) front)) cut)
-    where
-      front : take n xs ≡ take (min n (length xs)) (xs ++ ys)
-      front = sym (take_min n xs) ∙ sym (take-append-le (min n (length xs)) xs ys (omega arith))
+    same : length es ≤ n → IsCut whole (take n es)
+    same le = (m, inr (area, bytes, change, take_all n es le ∙ is))
 
-  -- a cut of the second, behind the first
-  pub cut_right : (xs ys fs : List Event) → IsCut area ys fs → IsCut area (xs ++ ys) (xs ++ fs)
-  cut_right xs ys fs (n, inl is) = (length xs + n, inl (ap (λ (l : List Event). xs ++ l) is ∙ sym (take-append-add xs ys n)))
-  cut_right xs ys fs (n, inr (bytes, change, is)) =
-      let front = sym (take-append-add xs ys n) in (
-        length xs + n,
-        inr (bytes, subst (EndsInChange area) front (ends_behind xs (take n ys) change), ap (λ (l : List Event). xs ++ l) is ∙ sym (append_assoc xs (take n ys) _) ∙ ap (with_left bytes) front),
-      )
+-- a cut of the first of two lists is one of both
+pub cut_left : (xs ys es : List Event) → IsCut xs es → IsCut (xs ++ ys) es
+cut_left xs ys es (n, cut) = (min n (length xs), ⊎_elim (λ is. inl (is ∙ prefix)) (λ (area, bytes, change, is). inr (area, bytes, subst (EndsIn area) prefix change, is ∙ ap (with_left area bytes) prefix)) cut)
+  where
+    prefix : take n xs ≡ take (min n (length xs)) (xs ++ ys)
+    prefix = sym (take_min n xs) ∙ sym (take-append-le (min n (length xs)) xs ys (omega arith))
 
-  -- the whole of the first is a cut of both
-  pub cut_whole : (xs ys es : List Event) → es ≡ xs → IsCut area (xs ++ ys) es
-  cut_whole xs ys es is = (length xs, inl (is ∙ sym (take-append_seam xs ys)))
+-- the first, and a cut of the second
+pub cut_right : (xs ys fs : List Event) → IsCut ys fs → IsCut (xs ++ ys) (xs ++ fs)
+cut_right xs ys fs (n, inl is) = (length xs + n, inl (ap (λ (l : List Event). xs ++ l) is ∙ sym (take-append-add xs ys n)))
+cut_right xs ys fs (n, inr (area, bytes, change, is)) =
+    let front = sym (take-append-add xs ys n) in (
+      length xs + n,
+      inr (area, bytes, subst (EndsIn area) front (ends_after area xs (take n ys) change), ap (λ (l : List Event). xs ++ l) is ∙ sym (append_assoc xs (take n ys) _) ∙ ap (with_left area bytes) front),
+    )
 
-  pub cut_none : (xs es : List Event) → es ≡ [] → IsCut area xs es
-  cut_none xs es is = (0, inl is)
+-- the whole of the first is a cut of both
+pub cut_whole : (xs ys es : List Event) → es ≡ xs → IsCut (xs ++ ys) es
+cut_whole xs ys es is = (length xs, inl (is ∙ sym (take-append_seam xs ys)))
+
+pub cut_none : (xs es : List Event) → es ≡ [] → IsCut xs es
+cut_none xs es is = (0, inl is)

@@ -9,13 +9,13 @@ use Rattle.satp_base.specs.declared.area.Area.{Area}
 use Rattle.satp_base.specs.declared.area.Event.{Event}
 use Rattle.satp_base.specs.declared.area.Event.TheVariants.{Wrote, Synced}
 use Rattle.satp_base.specs.Trail.{Trail, Standing, Leaves, settled, overlaid, wrote, next, standing, extended, seen, IsImage, KeepsModel, KeepsFrom}
-use Rattle.satp_base.specs.Format.{records, EndsAt, Stands, IsMendable, IsAtRest}
+use Rattle.satp_base.specs.Format.{IsPayload, counted, records, EndsAt, Stands, IsMendable, IsAtRest}
 use Rattle.satp_base.specs.Segments.{IsCut, wants_gate, shut_events, open_events}
-use Rattle.satp_base.specs.Laws.{RestsAt, IsInMend}
+use Rattle.satp_base.specs.Laws.{HasRecord, IsInAppend, IsInMend, IsOpening, OpenBegins, OpenLeaves, OpenKeeps, OpenStaysShort, OpenEnds}
 use Rattle.satp_base.proofs.Standings.{reads_along, keeps_split, here_settled, same_area_refl, only_settled, one_free, take_nil, cut_leaves}
-use Rattle.satp_base.proofs.Appends.{set_gate, laid_over_gate}
-use Rattle.satp_base.proofs.Readings.{one_end}
-use Rattle.satp_base.proofs.Closing.{stands_closed}
+use Rattle.satp_base.proofs.Appends.{set_gate, laid_over_gate, longer_ends}
+use Rattle.satp_base.proofs.Readings.{one_end, one_list}
+use Rattle.satp_base.proofs.Closing.{stands_closed, rest_stands}
 
 -- behind the first sync alone
 sync_states : (area : Area) (s : Standing) (n : ℕ) (c : List ℕ) → Leaves s s.now → Leaves (fold (next area) s (take n (Synced area ∷ []))) c → Leaves s c
@@ -28,7 +28,7 @@ sync_states area s (suc n) c here leaves = subst (λ (l : List ℕ). Leaves s l)
     settled_leaves : Leaves (settled s.now) c
     settled_leaves = subst (λ (st : Standing). Leaves st c) folded leaves
 
-pub open_begins : (t : Trail) (area : Area) (events : List Event) → IsCut area (Synced area ∷ []) events → KeepsModel (extended t events) → (image : List ℕ) → IsImage (extended t events) area image → IsImage t area image
+pub open_begins : OpenBegins
 open_begins t area events cut keeps image is =
     let split = keeps_split area (settled (t.start area)) t.events events (keeps area) in
     let at = cut_leaves area (Synced area ∷ []) (standing t area) events cut split.1 image (subst (λ (st : Standing). Leaves st image) (fold-append (next area) (settled (t.start area)) t.events events) is) in
@@ -177,33 +177,94 @@ module _ (payloads : List (List ℕ)) (gate : ℕ) (behind : List ℕ) (s : Stan
       open_gate is = ⊎_elim (λ on. with_one c (wants on) (subst (λ (n : ℕ). EndsAt payloads n behind c) is at)) (λ same. absurd (shut (sym same ∙ is))) written
 
 module _ (area : Area) (payloads : List (List ℕ)) (s : Standing) where
-  abbrev events_of : List Event
+  abbrev pub events_of : List Event
   events_of = open_events area s.now (length (records payloads))
 
-  mend_at : Stands s.now payloads → IsMendable s.now → (n : ℕ) (c : List ℕ) → Leaves (fold (next area) s (take (suc n) events_of)) c → IsInMend s.now payloads c
+  -- the images of the first n of these events
+  abbrev pub LeavesAt : ℕ → List ℕ → Type 0
+  LeavesAt n c = Leaves (fold (next area) s (take n events_of)) c
+
+  abbrev wants : Bool
+  wants = wants_gate s.now (length (records payloads))
+
+  mend_at : Stands s.now payloads → IsMendable s.now → (n : ℕ) (c : List ℕ) → LeavesAt (suc n) c → IsInMend s.now payloads c
   mend_at (inl (short, none)) mendable n c leaves = inl (inl (short_states s short area s.now n c refl (subst (λ (l : List (List ℕ)). Leaves (fold (next area) s (take (suc n) (open_events area s.now (length (records l))))) c) none leaves), none))
   mend_at (inr (long, (gate, behind, shut, ends))) mendable n c leaves =
-      let r = states payloads gate behind s ends area (wants_gate s.now (length (records payloads))) n c leaves in
-      in_mend payloads gate behind s shut ends long mendable (wants_gate s.now (length (records payloads))) r.0 c (wanted payloads gate behind s ends) r.1 r.2
+      let r = states payloads gate behind s ends area wants n c leaves in in_mend payloads gate behind s shut ends long mendable wants r.0 c (wanted payloads gate behind s ends) r.1 r.2
 
-  mend_cut : Stands s.now payloads → IsMendable s.now → (events : List Event) → IsCut area events_of (Synced area ∷ events) → KeepsFrom area s (Synced area ∷ events) → (c : List ℕ) → Leaves (fold (next area) s (Synced area ∷ events)) c → IsInMend s.now payloads c
-  mend_cut stands mendable events (zero, inl is) keeps c leaves = cc
-  mend_cut stands mendable events (zero, inr (bytes, change, is)) keeps c leaves = absurd change
-  mend_cut stands mendable events (suc n, cut) keeps c leaves = mend_at stands mendable n c (cut_leaves area events_of s (Synced area ∷ events) (suc n, cut) keeps c leaves)
+  short_at : Stands s.now payloads → length s.now ≤ 1 → (n : ℕ) (c : List ℕ) → LeavesAt (suc n) c → length c ≤ 1
+  short_at (inl (short, none)) le n c leaves = short_states s short area s.now n c refl (subst (λ (l : List (List ℕ)). Leaves (fold (next area) s (take (suc n) (open_events area s.now (length (records l))))) c) none leaves)
+  short_at (inr (long, closed)) le n c leaves = absurd (omega (arith, long, le))
+
+  -- what stands after the gate stays, and a gate that is 0 stays
+  pub rest_at : IsAtRest payloads s.now → (n : ℕ) (c : List ℕ) → LeavesAt (suc n) c → IsAtRest payloads c
+  rest_at (behind, ends) n c leaves =
+      let r = states payloads 0 behind s ends area wants n c leaves in
+      (behind, subst (λ (g : ℕ). EndsAt payloads g behind c) (⊎_elim (λ on. absurd (wanted payloads 0 behind s ends on refl)) (λ same. same) r.2) r.1)
+
+  record_at : (q : List ℕ) → HasRecord payloads q s.now → (n : ℕ) (c : List ℕ) → LeavesAt (suc n) c → HasRecord payloads q c
+  record_at q (gate, behind, ends) n c leaves = let r = states payloads gate (counted q ++ 0 ∷ behind) s ends area wants n c leaves in (r.0, behind, r.1)
+
+  -- from the first sync on
+  from_sync : (P : List ℕ → Type 0) → ((n : ℕ) (c : List ℕ) → LeavesAt (suc n) c → P c) → (events : List Event) → IsCut events_of (Synced area ∷ events) → KeepsFrom area s (Synced area ∷ events) → (c : List ℕ) → Leaves (fold (next area) s (Synced area ∷ events)) c → P c
+  from_sync P each events (zero, inl is) keeps c leaves = absurd cc
+  from_sync P each events (zero, inr (a, bytes, of, is)) keeps c leaves = absurd cc
+  from_sync P each events (suc n, cut) keeps c leaves = each n c (cut_leaves area events_of s (Synced area ∷ events) (suc n, cut) keeps c leaves)
 
   mend_end : Stands s.now payloads → (c : List ℕ) → Leaves (fold (next area) s events_of) c → IsAtRest payloads c
   mend_end (inl (short, none)) c leaves =
       subst (λ (l : List (List ℕ)). IsAtRest l c) (sym none) (short_end s short area s.now c refl (subst (λ (l : List (List ℕ)). Leaves (fold (next area) s (open_events area s.now (length (records l)))) c) none leaves))
-  mend_end (inr (long, (gate, behind, shut, ends))) c leaves =
-      last_state payloads gate behind s ends area (wants_gate s.now (length (records payloads))) c (not_wanted payloads gate behind s ends) leaves
+  mend_end (inr (long, (gate, behind, shut, ends))) c leaves = last_state payloads gate behind s ends area wants c (not_wanted payloads gate behind s ends) leaves
 
-pub open_leaves : (t : Trail) (area : Area) (payloads : List (List ℕ)) (events : List Event) → Stands (seen t area) payloads → IsMendable (seen t area)
-    → IsCut area (open_events area (seen t area) (length (records payloads))) (Synced area ∷ events) → KeepsModel (extended t (Synced area ∷ events))
-    → (image : List ℕ) → IsImage (extended t (Synced area ∷ events)) area image → IsInMend (seen t area) payloads image
-open_leaves t area payloads events stands mendable cut keeps image is =
-    mend_cut area payloads (standing t area) stands mendable events cut (keeps_split area (settled (t.start area)) t.events (Synced area ∷ events) (keeps area)).1 image
-    (subst (λ (st : Standing). Leaves st image) (fold-append (next area) (settled (t.start area)) t.events (Synced area ∷ events)) is)
+-- an image of an append, where one of the two lists was read
+module _ (area : Area) (list payloads : List (List ℕ)) (q : List ℕ) (s : Standing) (ok : IsPayload q) where
+  at_list : (known : List (List ℕ)) → Stands s.now list → Stands s.now known → (n : ℕ) (c : List ℕ) → LeavesAt area list s n c → LeavesAt area known s n c
+  at_list known stands other n c leaves = subst (λ (l : List (List ℕ)). LeavesAt area l s n c) (one_list s.now list known stands other) leaves
 
-pub open_ends : (t : Trail) (area : Area) (payloads : List (List ℕ)) → Stands (seen t area) payloads → RestsAt (extended t (open_events area (seen t area) (length (records payloads)))) area payloads
-open_ends t area payloads stands image is =
-    mend_end area payloads (standing t area) stands image (subst (λ (st : Standing). Leaves st image) (fold-append (next area) (settled (t.start area)) t.events (open_events area (seen t area) (length (records payloads)))) is)
+  -- where the gate is open already, nothing is written
+  open_at : (behind : List ℕ) → Stands s.now list → EndsAt payloads 1 (counted q ++ 0 ∷ behind) s.now → (n : ℕ) (c : List ℕ) → LeavesAt area list s (suc n) c → HasRecord payloads q c
+  open_at behind stands ends n c leaves =
+      let longer = payloads ++ q ∷ [] in
+      let rest : IsAtRest longer s.now = (behind, longer_ends payloads q behind s.now ok ends) in
+      let r = states longer 0 behind s rest.1 area (wants_gate s.now (length (records longer))) n c (at_list longer stands (rest_stands longer s.now rest) (suc n) c leaves) in
+      let zero_there = ⊎_elim (λ on. absurd (wanted longer 0 behind s rest.1 on refl)) (λ same. same) r.2 in
+      let same : c ≡ s.now = r.1.bytes ∙ ap (λ (g : ℕ). records longer ++ g ∷ behind) zero_there ∙ sym rest.1.bytes in
+      (1, behind, subst (EndsAt payloads 1 (counted q ++ 0 ∷ behind)) (sym same) ends)
+
+  pub keep_at : Stands s.now list → IsInAppend payloads q s.now → (n : ℕ) (c : List ℕ) → LeavesAt area list s (suc n) c → IsInAppend payloads q c
+  keep_at stands (inl rest) n c leaves = inl (rest_at area payloads s rest n c (at_list payloads stands (rest_stands payloads s.now rest) (suc n) c leaves))
+  keep_at stands (inr (gate, behind, ends)) n c leaves = ⊎_elim open_gate shut_gate (cases_eq gate 1)
+    where
+      open_gate : gate ≡ 1 → IsInAppend payloads q c
+      open_gate is = inr (open_at behind stands (subst (λ (g : ℕ). EndsAt payloads g (counted q ++ 0 ∷ behind) s.now) is ends) n c leaves)
+
+      shut_gate : gate ≢ 1 → IsInAppend payloads q c
+      shut_gate shut = inr (record_at area payloads s q (gate, behind, ends) n c (at_list payloads stands (stands_closed payloads gate (counted q ++ 0 ∷ behind) s.now shut ends) (suc n) c leaves))
+
+-- the images of a trail with further events, from how its area stands
+module _ (t : Trail) (area : Area) where
+  abbrev pub here : Standing
+  here = standing t area
+
+  pub from_here : (events : List Event) (image : List ℕ) → IsImage (extended t events) area image → Leaves (fold (next area) here events) image
+  from_here events image is = subst (λ (st : Standing). Leaves st image) (fold-append (next area) (settled (t.start area)) t.events events) is
+
+  pub keeps_from : (events : List Event) → KeepsModel (extended t events) → KeepsFrom area here events
+  keeps_from events keeps = (keeps_split area (settled (t.start area)) t.events events (keeps area)).1
+
+  -- the images from the first sync on
+  opening_leaves : (P : List ℕ → Type 0) (payloads : List (List ℕ)) (events : List Event) → IsOpening t area payloads events → ((n : ℕ) (c : List ℕ) → LeavesAt area payloads here (suc n) c → P c)
+      → (image : List ℕ) → IsImage (extended t (Synced area ∷ events)) area image → P image
+  opening_leaves P payloads events opens each image is = from_sync area payloads here P each events opens.cut (keeps_from (Synced area ∷ events) opens.keeps) image (from_here (Synced area ∷ events) image is)
+
+pub open_leaves : OpenLeaves
+open_leaves t area payloads events opens mendable = opening_leaves t area (IsInMend (seen t area) payloads) payloads events opens (mend_at area payloads (standing t area) opens.reads mendable)
+
+pub open_keeps : OpenKeeps
+open_keeps t area list payloads q events opens ok is = opening_leaves t area (IsInAppend payloads q) list events opens (keep_at area list payloads q (standing t area) ok opens.reads is)
+
+pub open_stays_short : OpenStaysShort
+open_stays_short t area payloads events opens short = opening_leaves t area (λ c. length c ≤ 1) payloads events opens (short_at area payloads (standing t area) opens.reads short)
+
+pub open_ends : OpenEnds
+open_ends t area payloads stands image is = mend_end area payloads (standing t area) stands image (from_here t area (open_events area (seen t area) (length (records payloads))) image is)

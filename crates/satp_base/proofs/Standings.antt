@@ -168,13 +168,13 @@ pub take_nil : (n : ℕ) → let none : List Event = [] in take n none ≡ none
 take_nil zero = refl
 take_nil (suc n) = refl
 
--- a cut of some events leaves no more than its front of them
-pub cut_leaves : (area : Area) (whole : List Event) (s : Standing) (events : List Event) → (cut : IsCut area whole events) → KeepsFrom area s events → (c : List ℕ) → Leaves (fold (next area) s events) c → Leaves (fold (next area) s (take cut.0 whole)) c
-cut_leaves area whole s events (n, inl is) keeps c leaves = subst (λ (st : Standing). Leaves st c) (ap (fold (next area) s) is) leaves
-cut_leaves area whole s events (n, inr (bytes, change, is)) keeps c leaves = left_same _ bytes c left_fits (subst (λ (st : Standing). Leaves st c) folded leaves)
-  where
-    left_fits : Leaves (fold (next area) s (take n whole)) bytes
-    left_fits = (keeps_split area s (take n whole) (Left area bytes ∷ []) (subst (KeepsFrom area s) is keeps)).1.0 (same_area_refl area)
+-- a `Left` that a stop could have left adds no image
+pub left_leaves : (area a : Area) (s : Standing) (bytes c : List ℕ) → IsFit area s (Left a bytes) → Leaves (next area s (Left a bytes)) c → Leaves s c
+left_leaves area a s bytes c fit = choice (λ st. Leaves st c → Leaves s c) (same_area a area) (changed s bytes []) s (λ is. left_same s bytes c (fit is)) (λ leaves. leaves)
 
-    folded : fold (next area) s events ≡ changed (fold (next area) s (take n whole)) bytes []
-    folded = ap (fold (next area) s) is ∙ fold-append (next area) s (take n whole) (Left area bytes ∷ []) ∙ rw (same_area_refl area) refl
+-- a cut of some events leaves no more than its prefix of them
+pub cut_leaves : (area : Area) (whole : List Event) (s : Standing) (events : List Event) → (cut : IsCut whole events) → KeepsFrom area s events → (c : List ℕ) → Leaves (fold (next area) s events) c → Leaves (fold (next area) s (take cut.0 whole)) c
+cut_leaves area whole s events (n, inl is) keeps c leaves = subst (λ (st : Standing). Leaves st c) (ap (fold (next area) s) is) leaves
+cut_leaves area whole s events (n, inr (a, bytes, change, is)) keeps c leaves =
+    left_leaves area a _ bytes c (keeps_split area s (take n whole) (Left a bytes ∷ []) (subst (KeepsFrom area s) is keeps)).1.0
+    (subst (λ (st : Standing). Leaves st c) (ap (fold (next area) s) is ∙ fold-append (next area) s (take n whole) (Left a bytes ∷ [])) leaves)

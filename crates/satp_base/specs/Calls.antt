@@ -1,10 +1,10 @@
 -- What a device tells, and what a call adds to it.
-use Rattle.std.specs.Prelude.{◌≡◌, ◌⊎◌, ℕ, ◌+◌, ◌-◌, ◌^◌, min, max, Bool, true, false, List, [], ◌∷◌, ◌++◌, length, take, drop, slice_get, Option, Some, option_map}
+use Rattle.std.specs.Prelude.{◌≡◌, ◌⊎◌, ℕ, ◌+◌, ◌-◌, ◌^◌, min, max, Bool, true, false, List, [], ◌∷◌, ◌++◌, length, take, drop, map, slice_get, Option, Some, None, option_map}
 use Rattle.satp_base.specs.declared.area.Area.{Area}
 use Rattle.satp_base.specs.declared.area.Event.{Event}
 use Rattle.satp_base.specs.declared.area.Event.TheVariants.{Left}
 use Rattle.satp_base.specs.declared.ledger.LedgerCall.{LedgerCall}
-use Rattle.satp_base.specs.Trail.{Trail, extended}
+use Rattle.satp_base.specs.Trail.{Trail, changed_area, extended}
 
 -- a directory that was asked for: how many calls came before, and whether it was entered
 pub record Entering : Type 0 where
@@ -56,17 +56,43 @@ enter_failed dir t = record (call_failed [] t) { dirs = t.dirs ++ record { dir =
 abbrev pub MayMiss : (Told → Told) → List Event → Option Told → Option Told → Type 0
 MayMiss call events old new = (new ≡ option_map call old) ⊎ (new ≡ option_map (call_failed events) old)
 
--- the events of a failed write, cut or sync: its event or none, and where the area then reads otherwise all that it reads
-abbrev pub IsFailure : Area → Event → List Event → Type 0
-IsFailure area event events = (events ≡ []) ⊎ (events ≡ event ∷ []) ⊎ ((bytes : List ℕ) × (events ≡ event ∷ Left area bytes ∷ []))
+-- the events of a failed write, cut or sync: its event or none, and where its area then reads otherwise all that this reads
+abbrev pub IsFailure : Event → List Event → Type 0
+IsFailure event events =
+    (events ≡ []) ⊎ (events ≡ event ∷ [])
+    ⊎ ((area : Area) × (bytes : List ℕ) × (changed_area event ≡ Some area) × (events ≡ event ∷ Left area bytes ∷ []))
 
 -- what a failed write, cut or sync does to what is told
-abbrev pub Fails : Area → Event → Option Told → Option Told → Type 0
-Fails area event old new = (events : List Event) × IsFailure area event events × (new ≡ option_map (call_failed events) old)
+abbrev pub Fails : Event → Option Told → Option Told → Type 0
+Fails event old new = (events : List Event) × IsFailure event events × (new ≡ option_map (call_failed events) old)
 
--- Of the calls that make these events, one each, the first n succeeded and the next one failed.
-abbrev pub FailsAmong : Area → List Event → Option Told → Option Told → Type 0
-FailsAmong area whole old new = (n : ℕ) × (event : Event) × (slice_get whole n ≡ Some event) × Fails area event (option_map (made n (take n whole)) old) new
+-- ---- lists of calls
+
+-- Calls are listed by their events. A call without an event, such as a look at the length or a read, is None.
+-- One call for each of these events.
+abbrev pub calls_of : List Event → List (Option Event)
+calls_of events = map Some events
+
+-- the events of these calls
+abbrev pub events_in : List (Option Event) → List Event
+events_in [] = []
+events_in (None ∷ calls) = events_in calls
+events_in (Some event ∷ calls) = event ∷ events_in calls
+
+-- all of these calls succeeded
+abbrev pub Makes : List (Option Event) → Option Told → Option Told → Type 0
+Makes calls old new = new ≡ option_map (made (length calls) (events_in calls)) old
+
+-- this call failed; one without an event is counted alone
+abbrev pub FailsAt : Option Event → Option Told → Option Told → Type 0
+FailsAt None old new = new ≡ option_map (call_failed []) old
+FailsAt (Some event) old new = Fails event old new
+
+-- Of these calls the first n succeeded, and the next one failed.
+abbrev pub FailsAmong : List (Option Event) → Option Told → Option Told → Type 0
+FailsAmong calls old new =
+    (n : ℕ) × (call : Option Event) × (slice_get calls n ≡ Some call)
+    × FailsAt call (option_map (made (length (take n calls)) (events_in (take n calls))) old) new
 
 -- the front of the buffer holds the area's bytes from a place on, and fewer than it has room for only where the area ends
 pub record Reads (area_bytes : List ℕ) (at : ℕ) (into : List ℕ) (count : ℕ) : Type 0 where

@@ -26,6 +26,5 @@ pub mod Roles
 pub mod Signatures
 pub mod Chains
 pub mod Lines
-pub mod Stops
 pub mod Wires
 pub mod GenesisText

@@ -1,11 +1,12 @@
 -- The events of an append and of an opening, and the cuts that a failure or a stop leaves of such lists.
-use Rattle.std.specs.Prelude.{◌≡◌, ◌⊎◌, ◌||◌, ◌==◌, not, Bool, if◌then◌else◌, ℕ, ◌+◌, List, [], ◌∷◌, ◌++◌, length, take, slice_index}
+use Rattle.std.specs.Prelude.{◌≡◌, ◌⊎◌, ◌||◌, ◌==◌, not, Bool, if◌then◌else◌, ℕ, ◌+◌, List, [], ◌∷◌, ◌++◌, length, take, slice_index, Option, Some, None}
 use Rattle.satp_base.specs.declared.area.Area.{Area}
 use Rattle.satp_base.specs.declared.area.Event.{Event}
-use Rattle.satp_base.specs.declared.area.Event.TheVariants.{Wrote, Cut, Synced, Left, Founded, Acted}
+use Rattle.satp_base.specs.declared.area.Event.TheVariants.{Wrote, Synced, Left}
 use Rattle.satp_base.specs.Format.{counted}
+use Rattle.satp_base.specs.Trail.{changed_area}
 
--- a frame is written behind the closed gate and synced, and then the gate is opened and synced
+-- a frame is written after the closed gate and synced, and then the gate is opened and synced
 abbrev pub frame_events : Area → ℕ → List ℕ → List Event
 frame_events area gate frame = Wrote area (gate + 1) frame ∷ Synced area ∷ Wrote area gate (1 ∷ []) ∷ Synced area ∷ []
 
@@ -28,21 +29,12 @@ mend_events area image gate = if wants_gate image gate then shut_events area gat
 abbrev pub open_events : Area → List ℕ → ℕ → List Event
 open_events area image gate = Synced area ∷ mend_events area image gate
 
--- a write, cut or sync of the area
-abbrev pub IsChangeOf : Area → Event → Type 0
-IsChangeOf area (Wrote a at bytes) = a ≡ area
-IsChangeOf area (Cut a n) = a ≡ area
-IsChangeOf area (Synced a) = a ≡ area
-IsChangeOf area (Left a bytes) = ⊥
-IsChangeOf area Founded = ⊥
-IsChangeOf area (Acted op session terms) = ⊥
+-- the area of the last of the events, where that is a write, a cut or a sync
+abbrev pub last_area : List Event → Option Area
+last_area [] = None
+last_area (e ∷ []) = changed_area e
+last_area (e ∷ f ∷ es) = last_area (f ∷ es)
 
--- the last of the events is one
-abbrev pub EndsInChange : Area → List Event → Type 0
-EndsInChange area [] = ⊥
-EndsInChange area (e ∷ []) = IsChangeOf area e
-EndsInChange area (e ∷ f ∷ es) = EndsInChange area (f ∷ es)
-
--- A prefix of these events. Right behind its last event, where that is a write, cut or sync of the area, a `Left` of the area may stand.
-abbrev pub IsCut : Area → List Event → List Event → Type 0
-IsCut area whole events = (n : ℕ) × ((events ≡ take n whole) ⊎ ((bytes : List ℕ) × EndsInChange area (take n whole) × (events ≡ take n whole ++ Left area bytes ∷ [])))
+-- A prefix of these events. Right after its last event, where that is a write, a cut or a sync, a `Left` of the same area may stand.
+abbrev pub IsCut : List Event → List Event → Type 0
+IsCut whole events = (n : ℕ) × ((events ≡ take n whole) ⊎ ((area : Area) × (bytes : List ℕ) × (last_area (take n whole) ≡ Some area) × (events ≡ take n whole ++ Left area bytes ∷ [])))

@@ -1,5 +1,5 @@
 -- What happened to the areas of a site, and what a stop may leave of each.
-use Rattle.std.specs.Prelude.{◌≡◌, ◌<◌, ◌≤◌, ◌⊎◌, ℕ, ◌+◌, min, max, Bool, true, false, List, [], ◌∷◌, ◌++◌, length, take, drop, slice_index, if◌then◌else◌}
+use Rattle.std.specs.Prelude.{◌≡◌, ◌<◌, ◌≤◌, ◌⊎◌, ℕ, ◌+◌, min, max, Bool, true, false, List, [], ◌∷◌, ◌++◌, length, take, drop, slice_index, if◌then◌else◌, Option, Some, None}
 use Rattle.std.specs.List.{fold}
 use Rattle.satp_base.specs.Ledgers.{Entries}
 use Rattle.satp_base.specs.declared.area.Area.{Area}
@@ -18,6 +18,15 @@ same_area JournalA JournalA = true
 same_area JournalB JournalB = true
 same_area Ledger Ledger = true
 same_area _ _ = false
+
+-- the area that a write, a cut or a sync is of
+abbrev pub changed_area : Event → Option Area
+changed_area (Wrote a at bytes) = Some a
+changed_area (Cut a n) = Some a
+changed_area (Synced a) = Some a
+changed_area (Left a bytes) = None
+changed_area Founded = None
+changed_area (Acted op session terms) = None
 
 -- How an area stands: its bytes at the last sync, its bytes now, and since that sync the least and the greatest
 -- length that it had and the ranges that were written (place and number of bytes).

@@ -74,7 +74,7 @@ pub trait Disk: Device {
         requires { ForSome (Self.told self.old) (λ t. at ≤ length (seen t.trail area)) }
         ensures ok { OnOk result (Self.told self.new ≡ option_map (made 1 (Wrote area at bytes.now ∷ [])) (Self.told self.old)) }
         ensures fits { OnOk result (at + length bytes.now ≤ 2 ^ 64 - 1) }
-        ensures err { OnErr result (Fails area (Wrote area at bytes.now) (Self.told self.old) (Self.told self.new)) }
+        ensures err { OnErr result (Fails (Wrote area at bytes.now) (Self.told self.old) (Self.told self.new)) }
         ensures ledger { Self.book self.new ≡ Self.book self.old }
         ensures beside { Self.beside self.old self.new }
         ensures cause { HasCause (Self.faults self.old) (Self.faults self.new) result };
@@ -83,7 +83,7 @@ pub trait Disk: Device {
     fn cut(&mut self, area: Area, size: u64) -> Result<(), DiskFault>
         requires { ForSome (Self.told self.old) (λ t. size ≤ length (seen t.trail area)) }
         ensures ok { OnOk result (Self.told self.new ≡ option_map (made 1 (Cut area size ∷ [])) (Self.told self.old)) }
-        ensures err { OnErr result (Fails area (Cut area size) (Self.told self.old) (Self.told self.new)) }
+        ensures err { OnErr result (Fails (Cut area size) (Self.told self.old) (Self.told self.new)) }
         ensures ledger { Self.book self.new ≡ Self.book self.old }
         ensures beside { Self.beside self.old self.new }
         ensures cause { HasCause (Self.faults self.old) (Self.faults self.new) result };
@@ -91,7 +91,7 @@ pub trait Disk: Device {
     /// Makes what the area holds survive a stop. A failed sync promises nothing.
     fn sync(&mut self, area: Area) -> Result<(), DiskFault>
         ensures ok { OnOk result (Self.told self.new ≡ option_map (made 1 (Synced area ∷ [])) (Self.told self.old)) }
-        ensures err { OnErr result (Fails area (Synced area) (Self.told self.old) (Self.told self.new)) }
+        ensures err { OnErr result (Fails (Synced area) (Self.told self.old) (Self.told self.new)) }
         ensures ledger { Self.book self.new ≡ Self.book self.old }
         ensures beside { Self.beside self.old self.new }
         ensures cause { HasCause (Self.faults self.old) (Self.faults self.new) result };

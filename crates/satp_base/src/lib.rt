@@ -39,7 +39,7 @@ pub use fault::{AmountFault, NameFault, SessionFault};
 pub use fields::cut_field;
 pub use genesis::{Asset, Genesis, GenesisFault, Hold};
 pub use head::Head;
-pub use laws::{law_append, law_open, law_readings, law_stops};
+pub use laws::{law_append, law_open, law_readings, law_reopen};
 pub use ledger::{
     ActFault, Answer, CoreFault, Entry, LedgerCall, LedgerEntry, LedgerKind, LedgerOp,
 };

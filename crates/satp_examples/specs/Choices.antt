@@ -1,7 +1,7 @@
 -- What the sides of a session answer: after an operation, to an abort, to a rescue, and by a message that is due.
 use Rattle.std.specs.Prelude.{◌≡◌, [], ◌∷◌, ◌++◌, true, false, Some, None, Ok, Err}
 use Rattle.satp_base.specs.Chains.{made_part, reason_of}
-use Rattle.satp_base.specs.Roles.{IsReached, abort_of, after_of, rescues}
+use Rattle.satp_base.specs.Roles.{IsReached, IsReason, abort_of, after_of, rescues}
 use Rattle.satp_base.specs.declared.ledger.Answer.TheVariants as answer
 use Rattle.satp_base.specs.declared.ledger.Entry.TheVariants.{Released}
 use Rattle.satp_base.specs.declared.ledger.LedgerOp.TheVariants.{Lock, Burn, Mint}
@@ -47,3 +47,5 @@ pub record PartsThatAreMade : Type 0 where
   pub capped : made_part (Some (Back MintCapped)) kind.Reject ≡ part.Reject reason.MintCapped
   pub aborted : reason_of (Some (Back Aborted)) ≡ reason.Aborted
   pub not_another_reason : ¬ (reason_of (Some (Back LedgerTaken)) ≡ reason.MintCapped)
+  pub by_its_name : IsReason MintCapped reason.MintCapped
+  pub not_by_another : ¬ IsReason MintCapped reason.Aborted

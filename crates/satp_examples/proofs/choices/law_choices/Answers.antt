@@ -50,4 +50,4 @@ returns-clause-views c = record {
 }
 
 pub returns-clause-parts : goal.returns-clause-parts
-returns-clause-parts c = record { plain = refl; capped = refl; aborted = refl; not_another_reason = λ e. cc e }
+returns-clause-parts c = record { plain = refl; capped = refl; aborted = refl; not_another_reason = λ e. cc e; by_its_name = tt; not_by_another = λ h. h }

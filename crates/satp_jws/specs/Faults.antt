@@ -1,5 +1,5 @@
 -- Why bytes are no key, and why a text is no compact JWS under a key: each the first fault that holds.
-use Rattle.std.specs.Prelude.{◌≡◌, ℕ, ◌==◌, List, [], ◌∷◌, ◌++◌, Bool, codes, length, nat_lt, Option, Some, None, is_some, option_and_then, unwrap_or, if◌then◌else◌}
+use Rattle.std.specs.Prelude.{◌≡◌, ◌↔◌, ℕ, ◌==◌, List, [], ◌∷◌, ◌++◌, Bool, codes, length, nat_lt, Option, Some, None, is_some, option_and_then, unwrap_or, if◌then◌else◌}
 use Rattle.std.specs.List.{slice_split}
 use Rattle.std.specs.Str.{bytes_eq, is_utf8}
 use Rattle.serde_json.specs.Data.{Data}
@@ -101,7 +101,6 @@ jws_fault key text = parts_fault key (parts_of text)
 abbrev pub OwnHeaderPasses : Type 0
 OwnHeaderPasses = header_fault own_header ≡ None
 
--- a part that decodes is the unpadded base64url of what it decodes to, and that of any bytes decodes to them
+-- a part decodes exactly where it is the unpadded base64url of some bytes, and to these
 abbrev pub DecodesWhatIsEncoded : Type 0
-DecodesWhatIsEncoded =
-    (part bytes : List ℕ) → IsBytes part → (decoded part ≡ Some bytes → part ≡ encoded bytes) × (IsBytes bytes → part ≡ encoded bytes → decoded part ≡ Some bytes)
+DecodesWhatIsEncoded = (part bytes : List ℕ) → IsBytes part → (decoded part ≡ Some bytes) ↔ (IsBytes bytes × (part ≡ encoded bytes))

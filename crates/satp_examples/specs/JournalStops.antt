@@ -1,13 +1,14 @@
 -- What a stop may leave of a journal of `abc`, at each event of an append of `d` and of an opening.
 use Rattle.std.specs.Prelude.{◌≡◌, ℕ, List, [], ◌∷◌, Some}
 use Rattle.satp_base.specs.Calls.{made}
-use Rattle.satp_base.specs.Laws.{IsInMend}
+use Rattle.satp_base.specs.Laws.{AllInAppend, IsInMend}
+use Rattle.satp_base.specs.Trail.{extended}
 use Rattle.satp_base.specs.declared.area.Area.TheVariants.{JournalA}
 use Rattle.satp_base.specs.declared.area.Event.{Event}
 use Rattle.satp_base.specs.declared.area.Event.TheVariants.{Wrote, Cut, Left}
 use Rattle.satp_journal.specs.Appending.{AppendStops, AtEach, RestsStill}
 use Rattle.satp_journal.specs.Opening.{OpenStops, Rests}
-use Rattle.satp_examples.specs.Appending.{append, at_rest, closed, gate_in_the_write, held, uncalled}
+use Rattle.satp_examples.specs.Appending.{append, at_rest, closed, gate_in_the_write, held, uncalled, with_both}
 use Rattle.satp_examples.specs.Disks.{behind, one_write}
 use Rattle.satp_examples.specs.Journals.{abc, abc_then, d}
 use Rattle.satp_examples.specs.Segments.{frame, gate, synced}
@@ -55,9 +56,6 @@ pub record StopsOfAnAppend : Type 0 where
 abbrev pub in_the_write : List ℕ
 in_the_write = gate_in_the_write d
 
-abbrev pub with_both : List ℕ
-with_both = abc_then (1 ∷ 0 ∷ 1 ∷ 100 ∷ 0 ∷ [])
-
 pub record ImagesOfAMend : Type 0 where
   pub as_it_was : IsInMend in_the_write (abc ∷ []) in_the_write
   pub with_the_gate_shut : IsInMend in_the_write (abc ∷ []) (abc_then (0 ∷ 0 ∷ 1 ∷ 100 ∷ 0 ∷ []))
@@ -82,3 +80,22 @@ pub record StopsOfAnOpening : Type 0 where
   pub not_left_longer_by_the_first_sync : ¬ OpensBy closed (synced ∷ Left JournalA (abc_then (0 ∷ 5 ∷ [])) ∷ [])
   pub not_over_a_payload : ¬ OpensBy in_the_write (synced ∷ Wrote JournalA 3 (120 ∷ []) ∷ [])
   pub not_a_cut_of_the_gate : ¬ OpensBy in_the_write (synced ∷ Cut JournalA 6 ∷ [])
+
+-- ---- an opening after a stop
+
+-- `d` was stored, and a stop in the mend of another opening, or in the append itself, left this
+abbrev pub StaysInAppend : List ℕ → List Event → Type 0
+StaysInAppend image events = AllInAppend (extended (uncalled image).trail events) JournalA (abc ∷ []) d
+
+-- the gate of the first record is written shut
+abbrev pub first_shut : Event
+first_shut = Wrote JournalA 0 (0 ∷ [])
+
+pub record StopsOfAReopening : Type 0 where
+  pub begins : StaysInAppend in_the_write []
+  pub in_the_mend : StaysInAppend in_the_write (synced ∷ shut ∷ [])
+  pub mended : StaysInAppend in_the_write (synced ∷ shut ∷ synced ∷ [])
+  -- a stop in the mend left 1 there again
+  pub with_both_again : StaysInAppend with_both (synced ∷ [])
+  pub not_with_the_record_dropped : ¬ StaysInAppend with_both (synced ∷ first_shut ∷ synced ∷ [])
+  pub not_opened_by_dropping_it : ¬ OpensBy with_both (synced ∷ first_shut ∷ synced ∷ [])

@@ -1,13 +1,16 @@
 -- The texts of a log's records.
 use Rattle.std.proofs.Common.{◌≡◌, ℕ, ◌+◌, ◌≤◌, true, List, [], ◌∷◌, ◌++◌, map, length, Some, refl, sym, ap, subst, ◌∙◌, arith}
+use Rattle.std.specs.List.{AllByRecursion, list_all}
+use Rattle.std.proofs.lemmas.Bool.{and_from}
 use Rattle.std.proofs.lemmas.List.{length-map, length_push}
 use Rattle.satp_base.specs.Canonical.{part_kind}
-use Rattle.satp_base.specs.Chains.{last_link, message_at, next_text, texts_of}
-use Rattle.satp_base.specs.Forms.{IsMessage, IsPart, is_entry}
+use Rattle.satp_base.specs.Chains.{last_link, link_of, message_at, next_text, texts_from, texts_of, zero_link}
+use Rattle.satp_base.specs.Forms.{IsLink, IsMessage, IsPart, is_entry}
 use Rattle.satp_base.specs.Roles.{RoleRule}
 use Rattle.satp_base.specs.Signatures.{own}
 use Rattle.satp_base.specs.Tales.{IsTale, maker, other}
 use Rattle.satp_base.specs.declared.message.Kind.{Kind}
+use Rattle.satp_base.specs.declared.message.Link.{Link}
 use Rattle.satp_base.specs.declared.message.Kind.TheVariants.{TransferProposal}
 use Rattle.satp_base.specs.declared.message.Part.{Part}
 use Rattle.satp_base.specs.declared.message.Part.TheVariants.{Proposal}
@@ -18,7 +21,7 @@ use Rattle.satp_base.specs.declared.record.Rec.{Rec}
 use Rattle.satp_base.specs.declared.record.Rec.TheVariants.{Began, Took, Made, Did, Chose, Rescue}
 use Rattle.satp_base.specs.declared.session.SessionId.{SessionId}
 use Rattle.satp_base.specs.declared.view.View.{View}
-use Rattle.satp_base.proofs.ChainLemmas.{link_at_formed, zero_formed}
+use Rattle.satp_base.proofs.ChainLemmas.{link_at_formed, link_formed, zero_formed}
 use Rattle.satp_base.proofs.TaleTable.{tale-short}
 use Rattle.satp_base.proofs.TextSizes.{chain-entry}
 use Rattle.satp_sides.specs.LogLaws.{HasText, IsChainOf, IsSessionOf, LogTexts}
@@ -38,6 +41,23 @@ entry-at key s recipient texts part short f =
 pub chain-length : (s : SessionId) (recipient : Name) (key : List ℕ) (v : View) (texts : List Text) → IsChainOf s recipient key v texts → length texts ≡ length v.tale
 chain-length s recipient key v texts k =
     ap length k.chain.each ∙ long s recipient key (Proposal v.terms ∷ k.rest) ∙ sym (length-map (Proposal v.terms ∷ k.rest) part_kind) ∙ ap length k.kinds
+
+entries-from : (key : List ℕ) (s : SessionId) (recipient : Name) (place : ℕ) (link : Link) (parts : List Part) → 1 ≤ place → place + length parts ≤ 12 → IsLink link → AllByRecursion IsPart parts
+    → list_all is_entry (texts_from s recipient key place link parts) ≡ true
+unfolding texts_from
+entries-from key s recipient place link [] one bound l f = refl
+entries-from key s recipient place link (p ∷ parts) one bound l f =
+    let m = message_at s recipient place link p in
+    and_from _ _ (chain-entry key m ((record { low = one; high = omega arith }, f.0), l) tt)
+    (entries-from key s recipient (place + 1) (link_of (own key m)) parts (omega arith) (omega arith) (link_formed (own key m)) f.1)
+
+-- an update may carry each text of a chain
+pub chain-entries : (s : SessionId) (recipient : Name) (key : List ℕ) (v : View) (texts : List Text) → IsChainOf s recipient key v texts → list_all is_entry texts ≡ true
+chain-entries s recipient key v texts k =
+    let parts = Proposal v.terms ∷ k.rest in
+    let short = tale-short _ k.chain.tale in
+    let long = length-map parts part_kind in
+    ap (list_all is_entry) k.chain.each ∙ entries-from key s recipient 1 zero_link parts (omega arith) (omega (arith, short, long)) zero_formed k.chain.formed
 
 module _ (p : Party) (xs : List Stored) (log : IsLog p xs) (s : SessionId) (v : View) (named : view_in s xs ≡ Some v) where
   session : IsSessionOf p s xs v

@@ -111,7 +111,6 @@ follows_disk_then a b c f g = record { disk = follows_then a b c f.disk g.disk; 
 
 -- ---- a site
 
-
 pub follows_site_same : (own : LedgerKind) (book : Option Book) (disk : MemDisk) → FollowsSite own book book disk disk
 follows_site_same own book disk = record { disk = follows_same disk; genesis = inr (inl refl); cause = inl (refl, λ some. some) }
 

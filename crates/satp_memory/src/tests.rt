@@ -8,14 +8,13 @@ fn a_source_gives_its_bytes_in_order(rt: HostRuntime) {
     let Ok(mut source) = MemSource::new(rt.alloc(), b"abcdef") else {
         return;
     };
-    assert!(rt; source.fail(2).is_ok());
+    assert!(rt; source.fail(3).is_ok());
     assert_eq!(rt; source.read(&mut into), Ok(4));
     assert_eq!(rt; into, *b"abcd");
-    assert_eq!(rt; source.read(&mut into), Err(SourceFault));
     assert_eq!(rt; source.read(&mut into), Ok(2));
     assert_eq!(rt; into, *b"efcd");
-    assert_eq!(rt; source.read(&mut into), Ok(0));
-    assert_eq!(rt; source.count(), 4);
+    assert_eq!(rt; source.read(&mut into), Err(SourceFault));
+    assert_eq!(rt; source.count(), 3);
     assert_eq!(rt; source.wants(), 0);
 }
 
@@ -27,9 +26,8 @@ fn a_sink_keeps_what_it_takes(rt: HostRuntime) {
     assert!(rt; sink.fail(2).is_ok());
     assert_eq!(rt; sink.write(b"abc"), Ok(3));
     assert_eq!(rt; sink.write(b"lost"), Err(SinkFault));
-    assert_eq!(rt; sink.write(b"d"), Ok(1));
-    assert!(rt; sink.bytes() == b"abcd".as_slice());
-    assert_eq!(rt; sink.count(), 3);
+    assert!(rt; sink.bytes() == b"abc".as_slice());
+    assert_eq!(rt; sink.count(), 2);
     assert_eq!(rt; sink.wants(), 0);
 }
 

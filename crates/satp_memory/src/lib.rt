@@ -14,8 +14,10 @@ mod source;
 mod stop;
 #[cfg(test)]
 mod tests;
+mod wire;
 
 pub use disk::MemDisk;
 pub use sink::MemSink;
 pub use site::MemSite;
 pub use source::MemSource;
+pub use wire::MemWire;

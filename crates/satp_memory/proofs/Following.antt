@@ -12,6 +12,7 @@ use Rattle.satp_base.specs.Streams.{Rose}
 use Rattle.satp_base.specs.Trail.{Trail}
 use Rattle.satp_base.specs.declared.area.Event.{Event}
 use Rattle.satp_base.specs.declared.area.Event.TheVariants.{Founded}
+use Rattle.satp_base.specs.declared.ledger.Answer.{Answer}
 use Rattle.satp_base.specs.declared.ledger.LedgerCall.{LedgerCall}
 use Rattle.satp_base.specs.declared.ledger.LedgerCall.TheVariants.{Act, Found}
 use Rattle.satp_base.specs.declared.ledger.LedgerKind.{LedgerKind}
@@ -20,12 +21,12 @@ use Rattle.satp_base.specs.declared.message.Terms.{Terms}
 use Rattle.satp_base.specs.declared.session.SessionId.{SessionId}
 use Rattle.satp_memory.specs.declared.operate.Halt.{Halt}
 use Rattle.satp_memory.specs.declared.operate.Halt.TheVariants as halt
-use Rattle.satp_memory.specs.Halting.{halted}
-use Rattle.satp_memory.specs.Calling.{Calling, begun, failed, is_due, is_refused, succeeded, wanting}
+use Rattle.satp_memory.specs.Halting.{fault_of, halted}
+use Rattle.satp_memory.specs.Calling.{Calling, begun, failed, faulting, is_due, is_refused, succeeded, wanting}
 use Rattle.satp_memory.specs.Areas.{bytes_in}
 use Rattle.satp_memory.specs.Disk.{is_plain}
 use Rattle.satp_memory.specs.Following.{Follows, FollowsDisk, FollowsSite, HasMisfit, HasSiteTrouble, HasTrouble, IsWithin, founds, has_founded, is_founding}
-use Rattle.satp_memory.specs.Sites.{LedgerFails, OperatesOn, same_kind}
+use Rattle.satp_memory.specs.Sites.{ActEnds, LedgerFails, OperatesOn, same_kind}
 use Rattle.satp_memory.specs.FollowingLaws.{reached_more, within_none}
 use Rattle.satp_memory.specs.Steps.{asking, is_stopped}
 use Rattle.satp_memory.specs.Stopping.{is_reached}
@@ -126,8 +127,12 @@ pub refused_trouble : (old new : MemDisk) → is_refused (is_stopped old) old.ca
 refused_trouble old new r grown stop count = by_stop (is_stopped old) refl r
   where
     due : is_due old.calls ≡ true → HasTrouble old new
-    due e = inr (inl (old.calls.count + 1, omega arith, omega (arith, count, ltb-true old.calls.count (2 ^ 64 - 1) (first_of (nat_lt old.calls.count (2 ^ 64 - 1)) (list_any (λ n. n == old.calls.count + 1) old.calls.named) e)),
-        second_of (nat_lt old.calls.count (2 ^ 64 - 1)) (list_any (λ n. n == old.calls.count + 1) old.calls.named) e))
+    due e = inr (inl (
+      old.calls.count + 1,
+      omega arith,
+      omega (arith, count, ltb-true old.calls.count (2 ^ 64 - 1) (first_of (nat_lt old.calls.count (2 ^ 64 - 1)) (list_any (λ n. n == old.calls.count + 1) old.calls.named) e)),
+      second_of (nat_lt old.calls.count (2 ^ 64 - 1)) (list_any (λ n. n == old.calls.count + 1) old.calls.named) e,
+    ))
 
     by_stop : (s : Bool) → is_stopped old ≡ s → is_refused s old.calls ≡ true → HasTrouble old new
     by_stop true here h = inr (inr (subst (λ (o : Option Stop). is_reached o (length new.events.items) ≡ true) (sym stop) (reached_more old.stop (length old.events.items) (length new.events.items) grown here)))
@@ -341,3 +346,16 @@ ledger_wanted refused fits c d e r f is want = rw (r, f) (inr (inr (want ∙ ap 
 
 pub halted_noted : (a b : Ask) (xs ys zs : List Ask) → zs ≡ ys ++ record a { succeeded = false } ∷ [] → ys ≡ xs → a ≡ b → zs ≡ xs ++ record b { succeeded = false } ∷ []
 halted_noted a b xs ys zs is same e = is ∙ (ap (λ (l : List Ask). l ++ record a { succeeded = false } ∷ []) same ∙ ap (λ (x : Ask). xs ++ record x { succeeded = false } ∷ []) e)
+
+-- a ledger that was there isn't missing
+pub was_there : {A P : Type 0} (o : Option A) (b : Bool) → b ≡ is_some o → b ≡ true → o ≡ None → P
+was_there o b is there none = let bad : false ≡ true = sym (ap is_some none) ∙ (sym is ∙ there) in absurd (never bad)
+  where
+    never : false ≡ true → ⊥
+    never e = cc
+
+pub act_ended : (op : LedgerOp) (s : SessionId) (t : Terms) (before after : Option Book) (h : Halt) (refused : Bool) (c d e : Calling) → OperatesOn op s t before (Err h) after → refused ≡ false → is_some before ≡ true → d ≡ succeeded c → e ≡ halted h d
+    → ActEnds {T = Answer} refused (is_some before) c e (Err (fault_of h))
+act_ended op s t before after halt.Unfounded refused c d e o free there is ends = was_there before (is_some before) refl there o.0
+act_ended op s t before after (halt.OutOfOrder entry) refused c d e o free there is ends = (free, there, ends ∙ ap faulting is)
+act_ended op s t before after halt.Memory refused c d e o free there is ends = ledger_wanted refused (is_some before) c d e free there is ends

@@ -1,6 +1,6 @@
 -- Whether an operation changes an entry, by what was there and what was answered.
 use Rattle.std.proofs.Common.{◌≡◌, ℕ, ◌+◌, nat_le, Bool, true, false, cond, Option, Some, None, refl, sym, ap, ◌∙◌}
-use Rattle.satp_base.specs.LedgerRule.{LedgerRule, RuleOn, entry_of, mint_on, moved, moves, operation, operation_on, stays}
+use Rattle.satp_base.specs.LedgerRule.{LedgerRule, entry_of, mint_on, moved, moves, operation, operation_on, stays}
 use Rattle.satp_base.specs.Money.{Book, cap_of, free_of, total_of}
 use Rattle.satp_base.specs.declared.ledger.Answer.{Answer}
 use Rattle.satp_base.specs.declared.ledger.Answer.TheVariants.{Done, NoFunds, UnknownAsset, Capped, Taken}

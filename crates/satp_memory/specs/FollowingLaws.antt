@@ -1,20 +1,19 @@
 -- A disk and a site go on over two calls as over each.
-use Rattle.std.proofs.Common.{◌≡◌, ◌≤◌, ◌<◌, ◌⊎◌, ℕ, ◌+◌, max, Bool, true, false, ◌&&◌, ◌||◌, ◌==◌, nat_le, List, [], ◌∷◌, ◌++◌, length, Option, Some, None, is_some, option_map, refl, sym, ap, subst, ◌∙◌, inl, inr, ⊎_elim, arith, length-append, append_assoc}
+use Rattle.std.proofs.Common.{◌≡◌, ◌≤◌, ◌⊎◌, ℕ, Bool, true, false, ◌||◌, ◌==◌, List, [], ◌∷◌, ◌++◌, length, Option, Some, None, is_some, option_map, refl, sym, ap, subst, ◌∙◌, inl, inr, arith, length-append, append_assoc}
 use Rattle.std.specs.List.{list_any}
 use Rattle.std.proofs.lemmas.Bool.{le-leb, leb-true}
 use Rattle.std.proofs.lemmas.List.{append-nil}
 use Rattle.std.proofs.lemmas.List.Folds.{list_any-append}
-use Rattle.satp_base.specs.Calls.{Ask, risen}
+use Rattle.satp_base.specs.Calls.{Ask}
 use Rattle.satp_base.specs.Money.{Book}
 use Rattle.satp_base.specs.Streams.{Rose}
 use Rattle.satp_base.specs.Trail.{Trail, extended}
 use Rattle.satp_base.specs.declared.area.Event.{Event}
 use Rattle.satp_base.specs.declared.area.Event.TheVariants.{Wrote, Cut, Synced, Left, Founded, Acted}
 use Rattle.satp_base.specs.declared.ledger.LedgerKind.{LedgerKind}
-use Rattle.satp_memory.specs.Calling.{Calling, begun, is_due, is_refused, wanting}
 use Rattle.satp_memory.specs.Disk.{is_plain}
 use Rattle.satp_memory.specs.Following.{Follows, FollowsDisk, FollowsSite, HasMisfit, HasSiteTrouble, HasTrouble, IsWithin, has_founded, is_founding}
-use Rattle.satp_memory.specs.Steps.{is_stopped, trail_of}
+use Rattle.satp_memory.specs.Steps.{trail_of}
 use Rattle.satp_memory.specs.Stopping.{is_reached}
 use Rattle.satp_memory.specs.declared.disk.MemDisk.{MemDisk}
 use Rattle.satp_memory.specs.declared.stop.Stop.{Stop}
@@ -110,7 +109,6 @@ follows_disk_then a b c f g = record { disk = follows_then a b c f.disk g.disk; 
     cause (inl e) (inr t) = inr (trouble_after a b c f.disk g.disk t)
 
 -- ---- a site
-
 
 pub follows_site_same : (own : LedgerKind) (book : Option Book) (disk : MemDisk) → FollowsSite own book book disk disk
 follows_site_same own book disk = record { disk = follows_same disk; genesis = inr (inl refl); cause = inl (refl, λ some. some) }

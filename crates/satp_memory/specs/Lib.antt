@@ -12,3 +12,5 @@ pub mod OneLedger
 pub mod Halting
 pub mod Following
 pub mod FollowingLaws
+pub mod Talking
+pub mod TalkingLaws

@@ -10,8 +10,8 @@ use crate::operate::Halt;
 use crate::pick::pick_areas;
 use crate::stop::Stop;
 use satp_base::{
-    ActFault, Area, Device, Disk, DiskFault, Event, Genesis, LedgerCall, LedgerKind, LedgerOp, Memory,
-    SessionId, Terms, Text,
+    ActFault, Area, Device, Disk, DiskFault, Event, Genesis, LedgerCall, LedgerKind, LedgerOp,
+    Memory, SessionId, Terms, Text,
 };
 use std::alloc::Global;
 
@@ -174,14 +174,27 @@ impl MemDisk {
             return Err(Memory);
         }
         if fails {
-            self.note(Ask { call, before, succeeded: false });
+            self.note(Ask {
+                call,
+                before,
+                succeeded: false,
+            });
             return Err(Memory);
         }
-        Ok(Ask { call, before, succeeded: true })
+        Ok(Ask {
+            call,
+            before,
+            succeeded: true,
+        })
     }
 
     /// The same of a founding, whose genesis it copies.
-    pub(crate) fn ask_founding(&mut self, kind: LedgerKind, genesis: &Genesis, fits: bool) -> Result<Ask, Memory>
+    pub(crate) fn ask_founding(
+        &mut self,
+        kind: LedgerKind,
+        genesis: &Genesis,
+        fits: bool,
+    ) -> Result<Ask, Memory>
         ensures ok { IfOk result (λ ask. (ask ≡ asking (Found kind genesis.now) self.old true) × (told_of self.new ≡ counted (told_of self.old)) × (is_stopped self.new ≡ false)) }
         ensures room { OnOk result ((vec_len self.new.events < vec_capacity self.new.events) × (vec_len self.new.asks < vec_capacity self.new.asks)) }
         ensures err { OnErr result (MayMiss (ask_failed (Found kind genesis.now) []) [] (Some (told_of self.old)) (Some (told_of self.new))) }
@@ -254,7 +267,14 @@ impl MemDisk {
     }
 
     /// Notes an operation that was answered, and adds the event of it where it changed an entry.
-    pub(crate) fn answer(&mut self, ask: Ask, changed: bool, op: LedgerOp, session: SessionId, terms: Terms)
+    pub(crate) fn answer(
+        &mut self,
+        ask: Ask,
+        changed: bool,
+        op: LedgerOp,
+        session: SessionId,
+        terms: Terms,
+    )
         requires room { (vec_len self.old.events < vec_capacity self.old.events) × (vec_len self.old.asks < vec_capacity self.old.asks) }
         requires running { is_stopped self.old ≡ false }
         requires act { founds ask.call ≡ false }
@@ -315,7 +335,11 @@ impl MemDisk {
         ensures rose { Rose self.old.calls.faults self.new.calls.faults }
         ensures beside { Follows self.old self.new }
     {
-        self.note(Ask { call: ask.call, before: ask.before, succeeded: false });
+        self.note(Ask {
+            call: ask.call,
+            before: ask.before,
+            succeeded: false,
+        });
         self.calls.halt(halt)
     }
 
@@ -343,7 +367,11 @@ impl MemDisk {
         ensures calls { self.new.calls ≡ self.old.calls }
     {
         let dir = Text::copy(self.alloc, dir)?;
-        self.dirs.push(Entering { dir, before, succeeded })?;
+        self.dirs.push(Entering {
+            dir,
+            before,
+            succeeded,
+        })?;
         Ok(())
     }
 

@@ -12,8 +12,10 @@ mod sink;
 mod site;
 mod source;
 mod stop;
+mod wire;
 
 pub use disk::MemDisk;
 pub use sink::MemSink;
 pub use site::MemSite;
 pub use source::MemSource;
+pub use wire::MemWire;

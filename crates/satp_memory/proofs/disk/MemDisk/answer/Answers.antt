@@ -1,7 +1,7 @@
 use Rattle.std.proofs.Common.{◌∙◌, [], ◌∷◌, ◌++◌, List, ap, refl, sym}
 use Rattle.satp_base.specs.declared.area.Event.{Event}
 use Rattle.satp_base.specs.declared.area.Event.TheVariants.{Acted}
-use Rattle.satp_memory.proofs.Following.{counts_by, counts_same, follows_one, follows_still, not_founded}
+use Rattle.satp_memory.proofs.Following.{counts_same, follows_one, follows_still, not_founded}
 use Rattle.satp_memory.proofs.disk.MemDisk.answer.Goals as goal
 
 pub returns-then-changed-clause-beside : goal.returns-then-changed-clause-beside

@@ -42,10 +42,11 @@ returns-then-fails-clause-beside c =
 pub returns-clause-ok : goal.returns-clause-ok
 returns-clause-ok c =
     let room = c.find_room.ensures in
-    let kept = kept_last c.is_barred-barred.result c.args.self.now.calls c.find_room.new.self.calls (sym c.begin-fails.ensures.refused ∙ c.if-fails.false) (room.calls ∙ c.begin-fails.ensures.counted) in
-    (ap (λ (n : ℕ). ask_by c.args.call n true) c.count-before.ensures,
-    told_is (trail_is room.start room.past room.events) room.dirs (ap (λ (k : Calling). k.count) room.calls ∙ c.begin-fails.ensures.told) kept room.asks,
-    reached_same room.stop room.events ∙ not_stopped _ _ (sym c.is_barred-barred.ensures ∙ not_stopped _ _ (sym c.begin-fails.ensures.refused ∙ c.if-fails.false)))
+    let kept = kept_last c.is_barred-barred.result c.args.self.now.calls c.find_room.new.self.calls (sym c.begin-fails.ensures.refused ∙ c.if-fails.false) (room.calls ∙ c.begin-fails.ensures.counted) in (
+      ap (λ (n : ℕ). ask_by c.args.call n true) c.count-before.ensures,
+      told_is (trail_is room.start room.past room.events) room.dirs (ap (λ (k : Calling). k.count) room.calls ∙ c.begin-fails.ensures.told) kept room.asks,
+      reached_same room.stop room.events ∙ not_stopped _ _ (sym c.is_barred-barred.ensures ∙ not_stopped _ _ (sym c.begin-fails.ensures.refused ∙ c.if-fails.false)),
+    )
 
 pub returns-clause-ended : goal.returns-clause-ended
 returns-clause-ended c = ledger_goes _ _ _ _ c.is_barred-barred.ensures _ (sym c.begin-fails.ensures.refused ∙ c.if-fails.false) (c.find_room.ensures.calls ∙ c.begin-fails.ensures.counted)

@@ -1,4 +1,4 @@
-use Rattle.std.proofs.Common.{◌≡◌, ◌∙◌, [], Some, IfOk, true, false, ap, refl, subst, sym, inr}
+use Rattle.std.proofs.Common.{◌≡◌, ◌∙◌, [], IfOk, true, false, ap, refl, subst, sym, inr}
 use Rattle.std.proofs.lemmas.List.{append-nil}
 use Rattle.satp_base.specs.Calls.{Ask}
 use Rattle.satp_base.specs.Founding.{Founding}

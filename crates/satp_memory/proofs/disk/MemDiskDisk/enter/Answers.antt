@@ -1,4 +1,4 @@
-use Rattle.std.proofs.Common.{◌∙◌, not, Some, ap, refl, sym, inl, inr}
+use Rattle.std.proofs.Common.{◌∙◌, not, Some, ap, inl, inr}
 use Rattle.satp_memory.specs.Calling.{Calling, wanting}
 use Rattle.satp_memory.proofs.Following.{dir_noted, disk_still, told_is, trail_same}
 use Rattle.satp_memory.proofs.disk.MemDiskDisk.enter.Goals as goal

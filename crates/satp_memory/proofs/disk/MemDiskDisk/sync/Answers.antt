@@ -10,9 +10,12 @@ returns-then-begin-clause-beside c = disk_still _ _ _ c.is_stopped-stopped.ensur
 pub returns-then-is_err-clause-err : goal.returns-then-is_err-clause-err
 returns-then-is_err-clause-err c =
     let same = err_of c.stage_sync.result (sym c.is_err.ensures.value ∙ c.if-is_err.true) c.stage_sync.ensures.err in
-    let count = ap (λ (k : Calling). k.count) c.stage_sync.ensures.calls ∙ c.begin.ensures.told in
-    ([], inl refl, ap Some (told_is (trail_same same.start same.past same.events) same.dirs (ap (λ (k : Calling). k.count) c.want.ensures.counted ∙ count)
-    (ap (λ (k : Calling). k.last_failed) c.want.ensures.counted ∙ ap Some count) same.asks))
+    let count = ap (λ (k : Calling). k.count) c.stage_sync.ensures.calls ∙ c.begin.ensures.told in (
+      [],
+      inl refl,
+      ap Some (told_is (trail_same same.start same.past same.events) same.dirs (ap (λ (k : Calling). k.count) c.want.ensures.counted ∙ count)
+          (ap (λ (k : Calling). k.last_failed) c.want.ensures.counted ∙ ap Some count) same.asks),
+    )
 
 pub returns-then-is_err-clause-beside : goal.returns-then-is_err-clause-beside
 returns-then-is_err-clause-beside c =

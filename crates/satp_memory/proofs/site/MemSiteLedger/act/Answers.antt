@@ -1,21 +1,20 @@
-use Rattle.std.proofs.Common.{◌≡◌, ◌∙◌, [], ◌∷◌, Bool, true, false, Option, Some, None, Err, is_some, ap, inl, inr, option_map, refl, subst, sym}
+use Rattle.std.proofs.Common.{◌∙◌, Bool, Err, is_some, ap, option_map, refl, subst, sym}
 use Rattle.satp_base.specs.Acts.{MayRefuse}
-use Rattle.satp_base.specs.Calls.{Ask}
-use Rattle.satp_base.specs.declared.area.Event.TheVariants.{Founded}
 use Rattle.satp_base.specs.declared.ledger.ActFault.{ActFault}
-use Rattle.satp_base.specs.declared.ledger.LedgerCall.TheVariants.{Act, Found, Look, Raise}
+use Rattle.satp_base.specs.declared.ledger.Answer.{Answer}
+use Rattle.satp_base.specs.declared.ledger.LedgerCall.TheVariants.{Act}
 use Rattle.satp_memory.specs.Calling.{Calling, is_refused}
 use Rattle.satp_memory.specs.FollowingLaws.{follows_then}
-use Rattle.satp_memory.specs.Sites.{ActTells, LedgerFails, same_kind}
-use Rattle.satp_memory.specs.Steps.{asking, entries_of, is_stopped, told_of}
-use Rattle.satp_memory.proofs.Following.{halted_noted, is_some_map, ledger_wanted, site_failed, site_founded, site_halted, site_quiet, site_unfounded}
-use Rattle.satp_memory.proofs.Siting.{asked-adding, asked-failing, asked-none, done-act, done-entries, done-genesis, entries-same, failed-act, halted-act, halted-may, still}
+use Rattle.satp_memory.specs.Sites.{ActEnds, ActTells, LedgerFails}
+use Rattle.satp_memory.specs.Steps.{entries_of, is_stopped, told_of}
+use Rattle.satp_memory.proofs.Following.{act_ended, halted_noted, is_some_map, site_failed, site_halted, site_quiet}
+use Rattle.satp_memory.proofs.Siting.{asked-adding, asked-failing, done-act, done-entries, done-genesis, entries-same, failed-act, halted-act, halted-may, still}
 use Rattle.satp_memory.proofs.site.MemSiteLedger.act.Goals as goal
 
 pub returns-in-Err-clause-told : goal.returns-in-Err-clause-told
 returns-in-Err-clause-told g c =
     let book = option_map g.C.LedgerCore.book c.args.self.now.core in
-    failed-act c.args.op c.args.session c.args.terms.now _ _ book book refl c.in-Err.ensures.err
+    failed-act c.args.op c.args.session c.args.terms.now (told_of c.args.self.now.disk) (told_of c.ask.new.self) book book refl c.in-Err.ensures.err
 
 pub returns-in-Err-clause-beside : goal.returns-in-Err-clause-beside
 returns-in-Err-clause-beside g c =
@@ -62,7 +61,12 @@ returns-in-Err-operate-clause-refused g c =
     (halted-may c.args.op c.args.session c.args.terms.now (told_of old.disk) (told_of old.disk) (option_map g.C.LedgerCore.book old.core) (option_map g.C.LedgerCore.book c.operate.new.core) c.in-Err-operate.halt c.in-Err-operate.ensures)
 
 pub returns-in-Err-operate-clause-ended : goal.returns-in-Err-operate-clause-ended
-returns-in-Err-operate-clause-ended g c = ?
+returns-in-Err-operate-clause-ended g c =
+    let core = c.args.self.now.core in
+    let before = option_map g.C.LedgerCore.book core in
+    subst (λ (f : ActFault). ActEnds {T = Answer} (is_refused (is_stopped c.args.self.now.disk) c.args.self.now.disk.calls) (is_some before) c.args.self.now.disk.calls c.halt.new.self.calls (Err f)) (sym c.halt.ensures.fault)
+    (act_ended c.args.op c.args.session c.args.terms.now before (option_map g.C.LedgerCore.book c.operate.new.core) c.in-Err-operate.halt _ _ c.ask.new.self.calls _ c.in-Err-operate.ensures
+    c.in-Ok.ensures.ended.0 (is_some_map g.C.LedgerCore.book core ∙ (sym c.is_some.ensures ∙ c.in-Ok.ensures.ended.1)) c.in-Ok.ensures.ended.2 c.halt.ensures.calls)
 
 pub returns-in-Err-operate-clause-beside : goal.returns-in-Err-operate-clause-beside
 returns-in-Err-operate-clause-beside g c =

@@ -1,16 +1,13 @@
-use Rattle.std.proofs.Common.{◌≡◌, ◌∙◌, List, [], ◌∷◌, ◌++◌, arith, Bool, true, false, Option, Some, None, Err, is_some, ap, inl, inr, option_map, refl, subst, sym}
-use Rattle.satp_base.specs.Acts.{MayRefuse}
-use Rattle.satp_base.specs.Calls.{Ask}
+use Rattle.std.proofs.Common.{◌∙◌, List, [], ◌∷◌, ◌++◌, arith, Bool, ap, inl, inr, refl, subst, sym}
 use Rattle.satp_base.specs.declared.area.Event.{Event}
 use Rattle.satp_base.specs.declared.area.Event.TheVariants.{Founded}
-use Rattle.satp_base.specs.declared.ledger.ActFault.{ActFault}
-use Rattle.satp_base.specs.declared.ledger.LedgerCall.TheVariants.{Act, Found, Look, Raise}
+use Rattle.satp_base.specs.declared.ledger.LedgerCall.TheVariants.{Found}
 use Rattle.satp_memory.specs.Calling.{Calling, is_refused}
 use Rattle.satp_memory.specs.FollowingLaws.{follows_then}
-use Rattle.satp_memory.specs.Sites.{ActTells, LedgerFails, same_kind}
-use Rattle.satp_memory.specs.Steps.{asking, entries_of, is_stopped, told_of}
-use Rattle.satp_memory.proofs.Following.{halted_noted, is_some_map, ledger_wanted, site_failed, site_founded, site_halted, site_quiet, site_unfounded}
-use Rattle.satp_memory.proofs.Siting.{asked-adding, asked-failing, asked-none, done-act, done-entries, done-genesis, entries-same, failed-act, halted-act, halted-may, still}
+use Rattle.satp_memory.specs.Sites.{LedgerFails, same_kind}
+use Rattle.satp_memory.specs.Steps.{is_stopped}
+use Rattle.satp_memory.proofs.Following.{halted_noted, ledger_wanted, site_founded, site_unfounded}
+use Rattle.satp_memory.proofs.Siting.{asked-adding, asked-failing}
 use Rattle.satp_memory.proofs.site.MemSiteSite.found.Goals as goal
 
 pub returns-in-Err-clause-beside : goal.returns-in-Err-clause-beside

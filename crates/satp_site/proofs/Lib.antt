@@ -1,2 +1,2 @@
+mod Second
 mod Untold
-pub mod Whole

@@ -1,5 +1,5 @@
 -- A kept ledger of either kind, how it is founded and opened, and what its operations do.
-use Rattle.std.specs.Prelude.{◌≡◌, ◌≢◌, ◌⊎◌, ℕ, [], Option, Some, None, IfSome, Result, Ok, if◌then◌else◌}
+use Rattle.std.specs.Prelude.{◌≡◌, ◌≢◌, ◌⊎◌, ℕ, [], false, Option, IfSome, Result, Ok}
 use Rattle.satp_base.specs.declared.area.Area.TheVariants.{Ledger}
 use Rattle.satp_base.specs.declared.ledger.ActFault.{ActFault}
 use Rattle.satp_base.specs.declared.ledger.Answer.{Answer}
@@ -10,17 +10,19 @@ use Rattle.satp_base.specs.declared.ledger.LedgerOp.{LedgerOp}
 use Rattle.satp_base.specs.declared.message.Terms.{Terms}
 use Rattle.satp_base.specs.declared.session.SessionId.{SessionId}
 use Rattle.satp_base.specs.Acts.{founded}
-use Rattle.satp_base.specs.Calls.{Told}
+use Rattle.satp_base.specs.Calls.{Told, Makes}
 use Rattle.satp_base.specs.Founding.{Founding}
 use Rattle.satp_base.specs.LedgerRule.{entry_of}
 use Rattle.satp_base.specs.Money.{Book}
+use Rattle.satp_base.specs.Streams.{Rose}
 use Rattle.satp_journal.specs.Opening.{OpenAnswers, Rests}
 use Rattle.satp_journal.specs.State.{JournalState}
 use Rattle.satp_keeper.specs.Books.{Leaves, ledger_payloads}
+use Rattle.satp_keeper.specs.Founding.{found_calls}
 use Rattle.satp_keeper.specs.Opening.{UnopenedBy}
 use Rattle.satp_keeper.specs.Operating.{KeepAnswers, act_answer, count_behind, faults_after, looked, shown, wants_after}
 use Rattle.satp_keeper.specs.declared.fault.KeeperFault.{KeeperFault}
-use Rattle.satp_keeper.specs.declared.fault.KeeperFault.TheVariants.{Record}
+use Rattle.satp_keeper.specs.declared.fault.KeeperFault.TheVariants.{Disk, Record}
 
 -- A kept ledger: its kind, the book that its operations so far leave, its journal, and what its disk tells.
 pub record KeptState : Type 0 where
@@ -33,16 +35,15 @@ pub record KeptState : Type 0 where
   pub own_faults : ℕ
   pub wants : ℕ
 
--- the book that is told: none where a call on the disk failed
-abbrev pub told_book : KeptState → Option Book
-told_book s = if s.journal.held.broken then None else Some s.book
-
 -- ---- how it comes to be
 
--- It was just founded with this genesis. Where its disk tells, the journal has the first records of such a ledger, and no operation.
-pub record IsFounded (asked : LedgerKind) (genesis : Founding) (s : KeptState) : Type 0 where
+-- It was just founded with this genesis on a disk that told this, by the calls of a founding alone. Where its disk tells, the journal has the first
+-- records of such a ledger, and no operation.
+pub record IsFounded (asked : LedgerKind) (genesis : Founding) (told : Option Told) (s : KeptState) : Type 0 where
   pub kind : s.kind ≡ asked
-  pub book : told_book s ≡ Some (founded genesis)
+  pub calls : Makes (found_calls (ledger_payloads asked genesis [])) told s.told
+  pub book : s.book ≡ founded genesis
+  pub whole : s.journal.held.broken ≡ false
   pub payloads : IfSome s.told (λ t. s.journal.held.payloads ≡ ledger_payloads asked genesis [])
   pub leaves : IfSome s.told (λ t. Leaves asked s.journal.held.payloads s.book)
   pub rests : Rests s.told s.journal.held
@@ -54,7 +55,7 @@ pub record IsOpened (keeper : LedgerKind) (told : Option Told) (s : KeptState) :
   pub kind : s.kind ≡ keeper
   pub opened : OpenAnswers Ledger told s.told (Ok s.journal)
   pub leaves : Leaves keeper s.journal.held.payloads s.book
-  pub book : told_book s ≡ Some s.book
+  pub whole : s.journal.held.broken ≡ false
   pub rests : Rests s.told s.journal.held
   pub own_faults : s.own_faults ≡ 0
   pub wants : s.wants ≡ 0
@@ -70,6 +71,11 @@ IsRaised told s = IsOpened Accounts told s ⊎ ((between : Option Told) × AreNo
 -- Why no ledger was opened: the keeper of accounts gave up on something other than the first record, or it refused that and the keeper of outputs gave up.
 abbrev pub IsUnraised : Option Told → Option Told → KeeperFault → Type 0
 IsUnraised old new fault = ((fault ≢ Record 0) × UnopenedBy Accounts old new fault) ⊎ ((between : Option Told) × AreNoAccounts old between × UnopenedBy Outputs between new fault)
+
+-- Why the keeper gave up, by the disk's count of faults: that rose where the disk failed, and stood still otherwise.
+pub record HasFailed (fault : KeeperFault) (before after : ℕ) : Type 0 where
+  pub rose : fault ≡ Disk → Rose before after
+  pub still : fault ≢ Disk → after ≡ before
 
 -- ---- what is done to it
 

@@ -1,4 +1,5 @@
 pub mod Untold
+pub mod Directories
 pub mod Keeping
 pub mod Ledgers
 pub mod Sites

@@ -1,8 +1,7 @@
 ghost use Rattle.std.specs.Prelude.{◌≡◌, ◌≤◌, ◌↔◌, [], None, IfErr, IfOk, IsTrue, MatchResult};
-ghost use Rattle.satp_base.specs.Streams.{Rose};
 ghost use Rattle.satp_keeper.specs.Books.{ledger_payloads};
 ghost use Rattle.satp_keeper.specs.Founding.{UnfoundedBy};
-ghost use Rattle.satp_site.specs.Keeping.{IsFounded, IsRaised, IsUnraised};
+ghost use Rattle.satp_site.specs.Keeping.{HasFailed, IsFounded, IsRaised, IsUnraised};
 
 use crate::directory::Directory;
 use satp_accounts::Accounts;
@@ -36,10 +35,9 @@ impl<D: Disk + Drop> KeptLedger<D> {
         kind: LedgerKind,
         genesis: &Genesis,
     ) -> Result<KeptLedger<D>, Unopened<D>>
-        ensures founded { IfOk result (λ l. IsFounded kind genesis.now (state_of l)) }
+        ensures founded { IfOk result (λ l. IsFounded kind genesis.now (D.told disk) (state_of l)) }
         ensures fault { IfErr result (λ u. UnfoundedBy (ledger_payloads kind genesis.now []) (D.told disk) (D.told u.disk) u.fault) }
-        ensures later { MatchResult result (λ l. D.faults disk ≤ (state_of l).disk_faults) (λ u. D.faults disk ≤ D.faults u.disk) }
-        ensures cause { IfErr result (λ u. u.fault ≡ KeeperFault.Disk → Rose (D.faults disk) (D.faults u.disk)) }
+        ensures cause { MatchResult result (λ l. (state_of l).disk_faults ≡ D.faults disk) (λ u. HasFailed u.fault (D.faults disk) (D.faults u.disk)) }
     {
         match kind {
             LedgerKind::Accounts => match Kept::found(alloc, disk, genesis) {
@@ -58,8 +56,7 @@ impl<D: Disk + Drop> KeptLedger<D> {
     /// It fails exactly where the keeper of accounts gives up on anything else, and where it refuses that record and the keeper of outputs gives up.
     pub fn open(alloc: Global, disk: D) -> Result<KeptLedger<D>, Unopened<D>>
         ensures opened { MatchResult result (λ l. IsRaised (D.told disk) (state_of l)) (λ u. IsUnraised (D.told disk) (D.told u.disk) u.fault) }
-        ensures later { MatchResult result (λ l. D.faults disk ≤ (state_of l).disk_faults) (λ u. D.faults disk ≤ D.faults u.disk) }
-        ensures cause { IfErr result (λ u. u.fault ≡ KeeperFault.Disk → Rose (D.faults disk) (D.faults u.disk)) }
+        ensures cause { MatchResult result (λ l. (state_of l).disk_faults ≡ D.faults disk) (λ u. HasFailed u.fault (D.faults disk) (D.faults u.disk)) }
     {
         let unopened = match Kept::open(alloc, disk) {
             Ok(kept) => return Ok(KeptLedger::Accounts(kept)),
@@ -72,6 +69,17 @@ impl<D: Disk + Drop> KeptLedger<D> {
             };
         }
         Err(unopened)
+    }
+
+    /// The disk as it is.
+    pub fn into_disk(self) -> D
+        ensures told { D.told result ≡ (state_of self).told }
+        ensures faults { D.faults result ≡ (state_of self).disk_faults }
+    {
+        match self {
+            KeptLedger::Accounts(kept) => kept.into_disk(),
+            KeptLedger::Outputs(kept) => kept.into_disk(),
+        }
     }
 
     /// An operation on the ledger that is held. Without one it fails.
@@ -105,44 +113,51 @@ impl<D: Disk + Drop> KeptLedger<D> {
 
 impl<D: Directory> KeptLedger<D> {
     ghost use Rattle.satp_site.specs.Ledgers.{state_of};
-    ghost use Rattle.satp_site.specs.Sites.{IsUnfounded, IsUnopened, Raises};
+    ghost use Rattle.satp_site.specs.Directories.{directory_state};
+    ghost use Rattle.satp_site.specs.Sites.{IsFoundedOn, IsRaisedOn, IsUnfounded, IsUnopened};
 
-    /// A new ledger of a kind, on a second disk in the directory of this one.
+    /// A new ledger of a kind, on the second disk in the directory of this one. That is given back where there is none.
     ///
     /// It fails only where there is no such disk, or where the keeper of that kind fails.
-    pub fn found_beside(
+    pub fn found_on_second(
         alloc: Global,
         disk: &mut D,
         kind: LedgerKind,
         genesis: &Genesis,
     ) -> Result<KeptLedger<D>, SiteFault>
-        ensures founded { IfOk result (λ l. IsFounded kind genesis.now (state_of l)) }
-        ensures fault { IfErr result (λ _. IsUnfounded kind genesis.now (D.faults disk.old) (D.faults disk.new)) }
-        ensures disk { D.told disk.new ≡ D.told disk.old }
+        ensures { let shown = directory_state D.told D.faults D.second_state in
+            MatchResult result (λ l. IsFoundedOn kind genesis.now (shown disk.old) (shown disk.new) (state_of l)) (λ _. IsUnfounded kind genesis.now (shown disk.old) (shown disk.new)) }
     {
-        match disk.beside() {
-            Ok(beside) => match KeptLedger::found(alloc, beside, kind, genesis) {
-                Ok(ledger) => Ok(ledger),
-                Err(_) => Err(SiteFault),
-            },
-            Err(DiskFault) => Err(SiteFault),
+        let second = match disk.second() {
+            Ok(second) => second,
+            Err(DiskFault) => return Err(SiteFault),
+        };
+        match KeptLedger::found(alloc, second, kind, genesis) {
+            Ok(ledger) => Ok(ledger),
+            Err(unfounded) => {
+                disk.give_back(unfounded.disk);
+                Err(SiteFault)
+            }
         }
     }
 
-    /// The ledger that stands on a second disk in the directory of this one.
+    /// The ledger that stands on the second disk in the directory of this one. That is given back where there is none.
     ///
     /// It fails only where there is no such disk, or where the keepers fail.
-    pub fn open_beside(alloc: Global, disk: &mut D) -> Result<KeptLedger<D>, SiteFault>
-        ensures raised { IfOk result (λ l. Raises (state_of l)) }
-        ensures fault { IfErr result (λ _. IsUnopened (D.faults disk.old) (D.faults disk.new)) }
-        ensures disk { D.told disk.new ≡ D.told disk.old }
+    pub fn open_on_second(alloc: Global, disk: &mut D) -> Result<KeptLedger<D>, SiteFault>
+        ensures { let shown = directory_state D.told D.faults D.second_state in
+            MatchResult result (λ l. IsRaisedOn (shown disk.old) (shown disk.new) (state_of l)) (λ _. IsUnopened (shown disk.old) (shown disk.new)) }
     {
-        match disk.beside() {
-            Ok(beside) => match KeptLedger::open(alloc, beside) {
-                Ok(ledger) => Ok(ledger),
-                Err(_) => Err(SiteFault),
-            },
-            Err(DiskFault) => Err(SiteFault),
+        let second = match disk.second() {
+            Ok(second) => second,
+            Err(DiskFault) => return Err(SiteFault),
+        };
+        match KeptLedger::open(alloc, second) {
+            Ok(ledger) => Ok(ledger),
+            Err(unopened) => {
+                disk.give_back(unopened.disk);
+                Err(SiteFault)
+            }
         }
     }
 }
@@ -155,28 +170,31 @@ fn is_first_record(fault: KeeperFault) -> bool
 }
 
 impl<D: Disk + Drop> Device for KeptLedger<D> {
-    ghost use Rattle.std.specs.Prelude.{◌+◌};
+    ghost use Rattle.std.specs.Prelude.{◌+◌, Some};
     ghost use Rattle.satp_keeper.specs.Telling.{untold_keeps};
-    ghost use Rattle.satp_site.specs.Keeping.{told_book};
     ghost use Rattle.satp_site.specs.Ledgers.{state_of};
 
     ghost told = { λ l. None };
 
-    ghost book = { λ l. told_book (state_of l) };
+    ghost book = { λ l. Some (state_of l).book };
 
     ghost faults = { λ l. (state_of l).disk_faults + (state_of l).own_faults };
 
     ghost keeps_model = { λ l t is. untold_keeps t is };
+
+    ghost beside_same = { λ _. tt };
+
+    ghost beside_then = { λ _ _ _ _ _. tt };
 }
 
 impl<D: Disk + Drop> Ledger for KeptLedger<D> {
-    ghost use Rattle.std.specs.Prelude.{◌≡◌, ◌+◌, List, [], None, IfOk, IfErr, IfSome};
+    ghost use Rattle.std.specs.Prelude.{◌≡◌, ◌+◌, List, [], None, Some, IfOk, IfErr};
     ghost use Rattle.satp_base.specs.Streams.{HasCause};
     ghost use Rattle.satp_base.specs.Acts.{ActsOn, Asks, MayAdd, MayAnswer, MayRefuse};
     ghost use Rattle.satp_base.specs.declared.area.Event.{Event};
     ghost use Rattle.satp_base.specs.declared.area.Event.TheVariants.{Acted};
     ghost use Rattle.satp_base.specs.declared.ledger.LedgerCall.TheVariants.{Act};
-    ghost use Rattle.satp_site.specs.Keeping.{KeptActs, KeptLooks, told_book};
+    ghost use Rattle.satp_site.specs.Keeping.{KeptActs, KeptLooks};
     ghost use Rattle.satp_site.specs.Ledgers.{state_of};
 
     /// As the keeper of its kind answers it.
@@ -184,7 +202,7 @@ impl<D: Disk + Drop> Ledger for KeptLedger<D> {
         ensures answer { IfOk result (MayAnswer op) }
         ensures refused { IfErr result (MayRefuse op) }
         ensures told { (events : List Event) × MayAdd (Acted op session terms.now) result events
-            × IfSome (told_book (state_of self.old)) (λ b. ActsOn op session terms.now b result events (told_book (state_of self.new)))
+            × ActsOn op session terms.now (state_of self.old).book result events (Some (state_of self.new).book)
             × Asks (Act op session terms.now) events result None None }
         ensures kept { KeptActs op session terms.now (state_of self.old) result (state_of self.new) }
         ensures cause { HasCause ((state_of self.old).disk_faults + (state_of self.old).own_faults) ((state_of self.new).disk_faults + (state_of self.new).own_faults) result }

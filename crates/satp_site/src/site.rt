@@ -25,6 +25,10 @@ pub struct RealSite<D: Directory> {
 }
 
 impl<D: Directory> RealSite<D> {
+    ghost use Rattle.satp_site.specs.Ledgers.{state_of};
+    ghost use Rattle.satp_site.specs.Directories.{directory_state};
+    ghost use Rattle.satp_site.specs.Sites.{given_back};
+
     /// A site without a ledger, on a disk that is in no directory yet.
     pub fn new(disk: D, alloc: Global) -> RealSite<D>
         ensures disk { result.disk ≡ disk }
@@ -38,6 +42,18 @@ impl<D: Directory> RealSite<D> {
             faults: 0,
         }
     }
+
+    /// Gives the disk of a ledger back, if there is one, and with it the ledger.
+    fn let_go(&mut self)
+        ensures disk { let shown = directory_state D.told D.faults D.second_state in
+            shown self.new.disk ≡ given_back (option_map state_of self.old.ledger) (shown self.old.disk) }
+        ensures ledger { self.new.ledger ≡ None }
+        ensures faults { self.new.faults ≡ self.old.faults }
+    {
+        if let Some(ledger) = self.ledger.take() {
+            self.disk.give_back(ledger.into_disk());
+        }
+    }
 }
 
 impl<D: Directory> Device for RealSite<D> {
@@ -48,33 +64,39 @@ impl<D: Directory> Device for RealSite<D> {
     ghost faults = { λ s. s.faults };
 
     ghost keeps_model = { λ s t is. untold_keeps t is };
+
+    ghost beside_same = { λ _. tt };
+
+    ghost beside_then = { λ _ _ _ _ _. tt };
 }
 
 /// A call on the disk is that call on the disk of the directory, which tells so where it tells. It fails only where that fails, and leaves the ledger alone; entering a directory drops it.
 impl<D: Directory> Disk for RealSite<D> {
     ghost use Rattle.std.specs.Prelude.{◌≤◌, ◌+◌, ◌-◌, ◌^◌, [], ◌∷◌, length, IfOk, IfSome, OnOk, OnErr};
-    ghost use Rattle.satp_base.specs.Calls.{entered, made, Fails, MayMiss, Reads};
+    ghost use Rattle.satp_base.specs.Calls.{call_failed, made, Fails, Reads};
     ghost use Rattle.satp_base.specs.Streams.{HasCause};
     ghost use Rattle.satp_base.specs.Trail.{seen};
     ghost use Rattle.satp_base.specs.declared.area.Event.TheVariants.{Wrote, Cut, Synced};
+    ghost use Rattle.satp_site.specs.Ledgers.{state_of};
+    ghost use Rattle.satp_site.specs.Directories.{directory_state};
+    ghost use Rattle.satp_site.specs.Sites.{SiteEnters, given_back};
 
     fn enter(&mut self, dir: &[u8]) -> Result<(), DiskFault>
-        ensures done { OnOk result (D.told self.new.disk ≡ option_map (entered dir.now) (D.told self.old.disk)) }
-        ensures failed { OnErr result (MayMiss (entered dir.now) (D.told self.old.disk) (D.told self.new.disk)) }
+        ensures enters { let shown = directory_state D.told D.faults D.second_state in
+            SiteEnters dir.now (given_back (option_map state_of self.old.ledger) (shown self.old.disk)) result (shown self.new.disk) }
         ensures cause { HasCause self.old.faults self.new.faults result }
         ensures counts { Counts self.old.faults self.new.faults result }
-        ensures disk { HasCause (D.faults self.old.disk) (D.faults self.new.disk) result }
-        ensures call { D.beside self.old.disk self.new.disk }
         ensures ledger { self.new.ledger ≡ None }
     {
         // The ledger's disk stands under the lock that is given back here.
-        self.ledger = None;
+        self.let_go();
         counted(&mut self.faults, self.disk.enter(dir))
     }
 
     fn length(&mut self, area: Area) -> Result<u64, DiskFault>
         ensures length { IfOk result (λ n. IfSome (D.told self.old.disk) (λ t. n ≡ length (seen t.trail area))) }
-        ensures looked { D.told self.new.disk ≡ option_map (made 1 []) (D.told self.old.disk) }
+        ensures done { OnOk result (D.told self.new.disk ≡ option_map (made 1 []) (D.told self.old.disk)) }
+        ensures failed { OnErr result (D.told self.new.disk ≡ option_map (call_failed []) (D.told self.old.disk)) }
         ensures cause { HasCause self.old.faults self.new.faults result }
         ensures counts { Counts self.old.faults self.new.faults result }
         ensures disk { HasCause (D.faults self.old.disk) (D.faults self.new.disk) result }
@@ -87,7 +109,8 @@ impl<D: Directory> Disk for RealSite<D> {
     fn read(&mut self, area: Area, at: u64, into: &mut [u8]) -> Result<usize, DiskFault>
         ensures bound { IfOk result (λ n. n ≤ length into.new) }
         ensures bytes { IfOk result (λ n. IfSome (D.told self.old.disk) (λ t. Reads (seen t.trail area) at into.new n)) }
-        ensures looked { D.told self.new.disk ≡ option_map (made 1 []) (D.told self.old.disk) }
+        ensures done { OnOk result (D.told self.new.disk ≡ option_map (made 1 []) (D.told self.old.disk)) }
+        ensures failed { OnErr result (D.told self.new.disk ≡ option_map (call_failed []) (D.told self.old.disk)) }
         ensures cause { HasCause self.old.faults self.new.faults result }
         ensures counts { Counts self.old.faults self.new.faults result }
         ensures disk { HasCause (D.faults self.old.disk) (D.faults self.new.disk) result }
@@ -100,7 +123,7 @@ impl<D: Directory> Disk for RealSite<D> {
     fn write(&mut self, area: Area, at: u64, bytes: &[u8]) -> Result<(), DiskFault>
         ensures fits { OnOk result (at + length bytes.now ≤ 2 ^ 64 - 1) }
         ensures done { OnOk result (D.told self.new.disk ≡ option_map (made 1 (Wrote area at bytes.now ∷ [])) (D.told self.old.disk)) }
-        ensures failed { OnErr result (Fails area (Wrote area at bytes.now) (D.told self.old.disk) (D.told self.new.disk)) }
+        ensures failed { OnErr result (Fails (Wrote area at bytes.now) (D.told self.old.disk) (D.told self.new.disk)) }
         ensures cause { HasCause self.old.faults self.new.faults result }
         ensures counts { Counts self.old.faults self.new.faults result }
         ensures disk { HasCause (D.faults self.old.disk) (D.faults self.new.disk) result }
@@ -112,7 +135,7 @@ impl<D: Directory> Disk for RealSite<D> {
 
     fn cut(&mut self, area: Area, size: u64) -> Result<(), DiskFault>
         ensures done { OnOk result (D.told self.new.disk ≡ option_map (made 1 (Cut area size ∷ [])) (D.told self.old.disk)) }
-        ensures failed { OnErr result (Fails area (Cut area size) (D.told self.old.disk) (D.told self.new.disk)) }
+        ensures failed { OnErr result (Fails (Cut area size) (D.told self.old.disk) (D.told self.new.disk)) }
         ensures cause { HasCause self.old.faults self.new.faults result }
         ensures counts { Counts self.old.faults self.new.faults result }
         ensures disk { HasCause (D.faults self.old.disk) (D.faults self.new.disk) result }
@@ -124,7 +147,7 @@ impl<D: Directory> Disk for RealSite<D> {
 
     fn sync(&mut self, area: Area) -> Result<(), DiskFault>
         ensures done { OnOk result (D.told self.new.disk ≡ option_map (made 1 (Synced area ∷ [])) (D.told self.old.disk)) }
-        ensures failed { OnErr result (Fails area (Synced area) (D.told self.old.disk) (D.told self.new.disk)) }
+        ensures failed { OnErr result (Fails (Synced area) (D.told self.old.disk) (D.told self.new.disk)) }
         ensures cause { HasCause self.old.faults self.new.faults result }
         ensures counts { Counts self.old.faults self.new.faults result }
         ensures disk { HasCause (D.faults self.old.disk) (D.faults self.new.disk) result }
@@ -175,28 +198,28 @@ impl<D: Directory> Ledger for RealSite<D> {
 }
 
 impl<D: Directory> Site for RealSite<D> {
-    ghost use Rattle.std.specs.Prelude.{List, [], IfErr};
+    ghost use Rattle.std.specs.Prelude.{List, []};
     ghost use Rattle.satp_base.specs.Streams.{HasCause};
     ghost use Rattle.satp_base.specs.Acts.{Asks, FoundEvents, FoundsBook};
     ghost use Rattle.satp_base.specs.declared.area.Event.{Event};
     ghost use Rattle.satp_base.specs.declared.ledger.LedgerCall.TheVariants.{Found, Raise};
     ghost use Rattle.satp_site.specs.Ledgers.{state_of};
-    ghost use Rattle.satp_site.specs.Sites.{IsUnfounded, IsUnopened, SiteFounds, SiteRaises};
+    ghost use Rattle.satp_site.specs.Directories.{directory_state};
+    ghost use Rattle.satp_site.specs.Sites.{SiteFounds, SiteRaises, given_back};
 
     ghost one_ledger = { λ s t b told book. untold_ledger t b told };
 
-    /// It fails only where no disk was had beside its own, or where the keeper of that kind fails.
+    /// It fails only where no second disk was had in its directory, or where the keeper of that kind fails.
     fn found(&mut self, kind: LedgerKind, genesis: &Genesis) -> Result<(), SiteFault>
         ensures told { (events : List Event) × FoundEvents result events × Asks (Found kind genesis.now) events result None None }
         ensures book { FoundsBook genesis.now result None None }
-        ensures fault { IfErr result (λ _. IsUnfounded kind genesis.now (D.faults self.old.disk) (D.faults self.new.disk)) }
-        ensures founds { SiteFounds kind genesis.now result (option_map state_of self.new.ledger) }
+        ensures founds { let shown = directory_state D.told D.faults D.second_state in
+            SiteFounds kind genesis.now (given_back (option_map state_of self.old.ledger) (shown self.old.disk)) result (shown self.new.disk) (option_map state_of self.new.ledger) }
         ensures cause { HasCause self.old.faults self.new.faults result }
         ensures counts { Counts self.old.faults self.new.faults result }
-        ensures disk { D.told self.new.disk ≡ D.told self.old.disk }
     {
-        self.ledger = None;
-        match KeptLedger::found_beside(self.alloc, &mut self.disk, kind, genesis) {
+        self.let_go();
+        match KeptLedger::found_on_second(self.alloc, &mut self.disk, kind, genesis) {
             Ok(ledger) => {
                 self.ledger = Some(ledger);
                 Ok(())
@@ -205,17 +228,16 @@ impl<D: Directory> Site for RealSite<D> {
         }
     }
 
-    /// It fails only where no disk was had beside its own, or where the keepers fail.
+    /// It fails only where no second disk was had in its directory, or where the keepers fail.
     fn raise(&mut self) -> Result<(), SiteFault>
         ensures told { Asks Raise [] result None None }
-        ensures fault { IfErr result (λ _. IsUnopened (D.faults self.old.disk) (D.faults self.new.disk)) }
-        ensures raises { SiteRaises result (option_map state_of self.new.ledger) }
+        ensures raises { let shown = directory_state D.told D.faults D.second_state in
+            SiteRaises (given_back (option_map state_of self.old.ledger) (shown self.old.disk)) result (shown self.new.disk) (option_map state_of self.new.ledger) }
         ensures cause { HasCause self.old.faults self.new.faults result }
         ensures counts { Counts self.old.faults self.new.faults result }
-        ensures disk { D.told self.new.disk ≡ D.told self.old.disk }
     {
-        self.ledger = None;
-        match KeptLedger::open_beside(self.alloc, &mut self.disk) {
+        self.let_go();
+        match KeptLedger::open_on_second(self.alloc, &mut self.disk) {
             Ok(ledger) => {
                 self.ledger = Some(ledger);
                 Ok(())

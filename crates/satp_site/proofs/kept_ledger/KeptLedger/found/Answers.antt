@@ -5,7 +5,6 @@ use Rattle.satp_keeper.specs.Books.{ledger_payloads}
 use Rattle.satp_keeper.specs.Founding.{UnfoundedBy}
 use Rattle.satp_outputs.specs.States.{book_of}
 use Rattle.satp_site.specs.Keeping.{IsFounded, KeptState}
-use Rattle.satp_site.proofs.Whole.{told-whole}
 use Rattle.satp_site.proofs.kept_ledger.KeptLedger.found.Goals as goal
 
 pub returns-in-Err-clause-fault : goal.returns-in-Err-clause-fault
@@ -25,9 +24,11 @@ returns-in-Ok-found-clause-founded g c =
       own_faults = kept.tally.faults;
       wants = kept.tally.wants;
     } in
-    subst (λ (k : LedgerKind). IsFounded k c.args.genesis.now state) (sym c.in-Outputs.is) (record {
+    subst (λ (k : LedgerKind). IsFounded k c.args.genesis.now (g.D.Device.told c.args.disk) state) (sym c.in-Outputs.is) (record {
       kind = refl;
-      book = told-whole kept.broken kept.journal.held.broken _ kept.whole found.1 ∙ ap Some found.0;
+      calls = c.in-Ok-found.ensures.answers;
+      book = found.0;
+      whole = sym kept.whole ∙ found.1;
       payloads = found.3;
       leaves = c.in-Ok-found.ensures.leaves;
       rests = found.2;

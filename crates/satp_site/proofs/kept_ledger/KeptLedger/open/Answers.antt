@@ -1,9 +1,8 @@
-use Rattle.std.proofs.Common.{refl, subst, inr}
+use Rattle.std.proofs.Common.{refl, subst, inr, sym, ◌∙◌}
 use Rattle.satp_base.specs.declared.ledger.LedgerKind.TheVariants.{Accounts}
 use Rattle.satp_keeper.specs.Opening.{UnopenedBy}
 use Rattle.satp_keeper.specs.declared.fault.KeeperFault.{KeeperFault}
 use Rattle.satp_site.specs.Keeping.{AreNoAccounts}
-use Rattle.satp_site.proofs.Whole.{told-whole}
 use Rattle.satp_site.proofs.kept_ledger.KeptLedger.open.Goals as goal
 
 pub returns-in-Ok-open-clause-opened : goal.returns-in-Ok-open-clause-opened
@@ -20,7 +19,7 @@ returns-in-Ok-open-clause-opened g c =
         kind = refl;
         opened = opened.0;
         leaves = opened.1;
-        book = told-whole kept.broken kept.journal.held.broken _ kept.whole opened.3;
+        whole = sym kept.whole ∙ opened.3;
         rests = opened.2;
         own_faults = c.in-Ok-open.ensures.counts.0;
         wants = c.in-Ok-open.ensures.counts.1;

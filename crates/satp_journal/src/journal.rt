@@ -1,4 +1,4 @@
-ghost use Rattle.std.specs.Prelude.{◌≡◌, ◌≤◌, ◌<◌, ◌⊎◌, ◌+◌, ◌^◌, false, length, slice_get, IfOk, IfErr, OnOk, OnErr};
+ghost use Rattle.std.specs.Prelude.{◌≡◌, ◌≢◌, ◌≤◌, ◌<◌, ◌⊎◌, ◌+◌, ◌^◌, false, length, slice_get, IfOk, IfErr, OnOk, OnErr};
 ghost use Rattle.std.specs.Option.{option_copied};
 ghost use Rattle.satp_base.specs.Format.{records};
 ghost use Rattle.satp_base.specs.Streams.{Rose};
@@ -50,8 +50,11 @@ impl Journal {
         ensures rests { IfOk result (λ journal. Rests (D.told disk.new) journal.held) }
         ensures fits { IfOk result (λ journal. Fits journal.held (D.told disk.new)) }
         ensures ledger { D.book disk.new ≡ D.book disk.old }
+        ensures beside { D.beside disk.old disk.new }
         ensures later { D.faults disk.old ≤ D.faults disk.new }
         ensures cause { IfErr result (λ fault. fault ≡ JournalFault.Disk → Rose (D.faults disk.old) (D.faults disk.new)) }
+        ensures kept { OnOk result (D.faults disk.new ≡ D.faults disk.old) }
+        ensures still { IfErr result (λ fault. fault ≢ JournalFault.Disk → D.faults disk.new ≡ D.faults disk.old) }
     {
         let image = match read_synced(alloc, disk, area) {
             Ok(image) => image,
@@ -109,8 +112,11 @@ impl Journal {
         ensures rests { OnOk result (AppendRests payload.now self.old.held (D.told disk.old) (D.told disk.new)) }
         ensures fits { self.new.held.broken ≡ false → Fits self.new.held (D.told disk.new) }
         ensures ledger { D.book disk.new ≡ D.book disk.old }
+        ensures beside { D.beside disk.old disk.new }
         ensures later { D.faults disk.old ≤ D.faults disk.new }
         ensures cause { IfErr result (λ fault. fault ≡ JournalFault.Disk → Rose (D.faults disk.old) (D.faults disk.new)) }
+        ensures kept { OnOk result (D.faults disk.new ≡ D.faults disk.old) }
+        ensures still { IfErr result (λ fault. fault ≢ JournalFault.Disk → D.faults disk.new ≡ D.faults disk.old) }
     {
         if self.broken {
             return Err(JournalFault::Broken);

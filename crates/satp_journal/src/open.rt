@@ -1,4 +1,4 @@
-ghost use Rattle.std.specs.Prelude.{◌≡◌, ◌≤◌, IfOk, IfErr, OnOk, OnErr, length};
+ghost use Rattle.std.specs.Prelude.{◌≡◌, ◌≢◌, ◌≤◌, IfOk, IfErr, OnOk, OnErr, length};
 ghost use Rattle.std.specs.Option.{ForSome};
 ghost use Rattle.satp_base.specs.Calls.{FailsAmong, Makes};
 ghost use Rattle.satp_base.specs.Segments.{wants_gate};
@@ -21,8 +21,11 @@ pub fn read_synced<D: Disk>(
     ensures ok { IfOk result (λ image. IsRead area (D.told disk.old) image.items × Makes (read_calls area) (D.told disk.old) (D.told disk.new)) }
     ensures err { IfErr result (ReadFails area (D.told disk.old) (D.told disk.new)) }
     ensures ledger { D.book disk.new ≡ D.book disk.old }
+    ensures beside { D.beside disk.old disk.new }
     ensures later { D.faults disk.old ≤ D.faults disk.new }
     ensures cause { IfErr result (λ fault. fault ≡ JournalFault.Disk → Rose (D.faults disk.old) (D.faults disk.new)) }
+    ensures kept { OnOk result (D.faults disk.new ≡ D.faults disk.old) }
+    ensures still { IfErr result (λ fault. fault ≢ JournalFault.Disk → D.faults disk.new ≡ D.faults disk.old) }
 {
     disk.sync(area)?;
     let length = disk.length(area)?;
@@ -38,6 +41,7 @@ pub fn mend<D: Disk>(disk: &mut D, area: Area, image: &[u8], gate: usize) -> Res
     ensures ok { OnOk result (Makes (mend_calls area image.now gate) (D.told disk.old) (D.told disk.new)) }
     ensures err { OnErr result (FailsAmong (mend_calls area image.now gate) (D.told disk.old) (D.told disk.new)) }
     ensures ledger { D.book disk.new ≡ D.book disk.old }
+    ensures beside { D.beside disk.old disk.new }
     ensures cause { HasCause (D.faults disk.old) (D.faults disk.new) result }
 {
     if wants_gate(image, gate) {

@@ -27,6 +27,7 @@ pub fn store<D: Disk>(disk: &mut D, area: Area, gate: u64, payload: &[u8]) -> Re
     ensures err { OnErr result (FailsAmong (calls_of (append_events area gate payload.now)) (D.told disk.old) (D.told disk.new)) }
     ensures fits { OnOk result (gate + length payload.now + 4 ≤ 2 ^ 64 - 1) }
     ensures ledger { D.book disk.new ≡ D.book disk.old }
+    ensures beside { D.beside disk.old disk.new }
     ensures cause { HasCause (D.faults disk.old) (D.faults disk.new) result }
 {
     let mut frame = [0; MOST + AROUND];
@@ -54,6 +55,7 @@ fn store_frame<D: Disk>(disk: &mut D, area: Area, gate: u64, frame: &[u8]) -> Re
     ensures err { OnErr result (FailsAmong (calls_of (frame_events area gate frame.now)) (D.told disk.old) (D.told disk.new)) }
     ensures fits { OnOk result (gate + 1 + length frame.now ≤ 2 ^ 64 - 1) }
     ensures ledger { D.book disk.new ≡ D.book disk.old }
+    ensures beside { D.beside disk.old disk.new }
     ensures cause { HasCause (D.faults disk.old) (D.faults disk.new) result }
 {
     disk.write(area, gate + 1, frame)?;
@@ -69,6 +71,7 @@ pub fn shut<D: Disk>(disk: &mut D, area: Area, gate: u64) -> Result<(), DiskFaul
     ensures ok { OnOk result (D.told disk.new ≡ option_map (made 2 (shut_events area gate)) (D.told disk.old)) }
     ensures err { OnErr result (FailsAmong (calls_of (shut_events area gate)) (D.told disk.old) (D.told disk.new)) }
     ensures ledger { D.book disk.new ≡ D.book disk.old }
+    ensures beside { D.beside disk.old disk.new }
     ensures cause { HasCause (D.faults disk.old) (D.faults disk.new) result }
 {
     disk.write(area, gate, &[CLOSED])?;

@@ -1,2 +1,4 @@
+pub mod Establishing
+pub mod Growing
 pub mod Deciding
 pub mod Stopping

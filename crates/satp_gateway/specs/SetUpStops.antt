@@ -1,27 +1,43 @@
 -- What a stop leaves of a set-up.
-use Rattle.std.specs.Prelude.{◌≡◌, ◌⊎◌, ℕ, List, [], ◌∷◌, ◌++◌, Option, IfSome}
+use Rattle.std.specs.Prelude.{◌≡◌, ℕ, List, [], ◌∷◌, ◌++◌, Option, IfSome}
 use Rattle.satp_base.specs.Calls.{Told}
-use Rattle.satp_base.specs.Format.{IsMendable, Stands}
-use Rattle.satp_base.specs.Laws.{IsInMend}
-use Rattle.satp_base.specs.Segments.{IsCut}
-use Rattle.satp_base.specs.Trail.{Trail, IsImage, seen}
+use Rattle.satp_base.specs.Format.{IsAtRest}
+use Rattle.satp_base.specs.Laws.{IsInAppend, RestsAt}
+use Rattle.satp_base.specs.Trail.{Trail}
 use Rattle.satp_base.specs.declared.area.Area.TheVariants.{JournalA}
 use Rattle.satp_base.specs.declared.area.Event.{Event}
-use Rattle.satp_base.specs.declared.area.Event.TheVariants.{Founded, Synced}
-use Rattle.satp_journal.specs.Appending.{AtEach}
+use Rattle.satp_base.specs.declared.area.Event.TheVariants.{Founded}
+use Rattle.satp_journal.specs.Appending.{AtEach, RestsStill}
+use Rattle.satp_journal.specs.Opening.{IsInOpening}
 use Rattle.satp_gateway.specs.SettingUp.{Plan}
 
 -- a founding is among these events
 abbrev pub HasFounded : List Event → Type 0
-HasFounded events = (front : List Event) × (behind : List Event) × (events ≡ front ++ Founded ∷ behind)
+HasFounded events = (before : List Event) × (after : List Event) × (events ≡ before ++ Founded ∷ after)
 
--- Until the first sync has succeeded, an image of before. From then on, where what was read may be mended, an image that stands for its list, or for the
--- list that it stands for with 1 in place of its closed gate. Where that list is empty, and only behind the founding, the image may stand for the record of
--- the set-up alone: so, where the gate was 0 or not there, a second set-up finds nothing or that record.
+-- ---- over an open journal
+
+-- Until the founding, an image at rest without a record. From then on one of the append of the set-up's record to a journal without any: so it stands for
+-- no record or for that one alone.
+pub record IsInFounding (p : Plan) (events : List Event) (image : List ℕ) : Type 0 where
+  pub before : ¬ HasFounded events → IsAtRest [] image
+  pub after : HasFounded events → IsInAppend [] p.payload image
+
+-- at each event of a set-up over a journal that is at rest without a record
+abbrev pub VacantStops : Plan → Option Told → Option Told → Type 0
+VacantStops p old new = IfSome old (λ t. RestsAt t.trail JournalA [] → IfSome new (λ u. AtEach JournalA t.trail u.trail (IsInFounding p)))
+
+-- a journal that was at rest without a record is at rest with the record of the set-up alone
+abbrev pub VacantRests : Plan → Option Told → Option Told → Type 0
+VacantRests p old new = RestsStill JournalA [] (p.payload ∷ []) old new
+
+-- ---- all of it
+
+-- Until the founding, an image of an opening of the journal. From then on, whatever the journal's bytes were, one of the append of the set-up's record to a
+-- journal without any.
 pub record IsInSetUp (p : Plan) (t : Trail) (events : List Event) (image : List ℕ) : Type 0 where
-  pub before : IsCut JournalA (Synced JournalA ∷ []) events → IsImage t JournalA image
-  pub behind : (rest : List Event) (payloads : List (List ℕ)) → events ≡ Synced JournalA ∷ rest → Stands (seen t JournalA) payloads → IsMendable (seen t JournalA)
-      → IsInMend (seen t JournalA) payloads image ⊎ (HasFounded events × (payloads ≡ []) × Stands image (p.payload ∷ []))
+  pub before : ¬ HasFounded events → IsInOpening t JournalA events image
+  pub after : HasFounded events → IsInAppend [] p.payload image
 
 -- at each event of the set-up
 abbrev pub SetUpStops : Plan → Option Told → Option Told → Type 0

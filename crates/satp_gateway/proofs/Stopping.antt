@@ -1,223 +1,148 @@
 -- What a stop leaves of a set-up, and what the whole of it leaves.
-use Rattle.std.proofs.Common.{◌≡◌, ◌≢◌, ◌<◌, ◌≤◌, ◌⊎◌, ◌-◌, ℕ, zero, suc, ◌+◌, Bool, true, false, if◌then◌else◌, List, [], ◌∷◌, ◌++◌, length, take, Option, Some, None, Result, Ok, Err, refl, sym, ap, subst, ◌∙◌, inl, inr, arith, append_assoc}
+use Rattle.std.proofs.Common.{◌≡◌, ◌<◌, ◌≤◌, ◌⊎◌, ◌-◌, ℕ, zero, suc, ◌+◌, List, [], ◌∷◌, ◌++◌, length, take, Option, Some, None, option_map, Result, Ok, Err, refl, sym, ap, subst, ◌∙◌, inl, inr, arith, append_assoc}
 use Rattle.std.specs.Prelude.{OnOk}
-use Rattle.std.specs.List.{AllByRecursion}
 use Rattle.std.proofs.lemmas.Bool.{cases_lt}
-use Rattle.std.proofs.lemmas.List.{append_cancel_left, take-append-le}
+use Rattle.std.proofs.lemmas.List.{append-nil, append_cancel_left, take-append-le}
 use Rattle.std.proofs.lemmas.List.Sums.{fold-append}
 use Rattle.std.proofs.Math.Seq.{take-append-add}
-use Rattle.satp_base.specs.declared.area.Area.{Area}
 use Rattle.satp_base.specs.declared.area.Area.TheVariants.{JournalA}
 use Rattle.satp_base.specs.declared.area.Event.{Event}
-use Rattle.satp_base.specs.declared.area.Event.TheVariants.{Founded, Left, Synced}
-use Rattle.satp_base.specs.declared.ledger.LedgerCall.TheVariants.{Found}
-use Rattle.satp_base.specs.Calls.{Told, FailsAmong, Makes, ask_failed, call_failed, events_in}
+use Rattle.satp_base.specs.declared.area.Event.TheVariants.{Founded}
+use Rattle.satp_base.specs.Calls.{Told, Makes, calls_of}
 use Rattle.satp_base.specs.Format.{IsPayload}
-use Rattle.satp_base.specs.Laws.{RestsAt}
-use Rattle.satp_base.specs.Money.{Book}
-use Rattle.satp_base.specs.Segments.{IsCut, shut_events, wants_gate}
+use Rattle.satp_base.specs.Laws.{IsInAppend, RestsAt}
+use Rattle.satp_base.specs.Segments.{IsCut}
 use Rattle.satp_base.specs.Trail.{Trail, Standing, IsImage, KeepsModel, Leaves, extended, next, settled, standing}
 use Rattle.satp_base.proofs.Closing.{append_leaves, append_ends}
 use Rattle.satp_base.proofs.Cuts.{cut_front}
-use Rattle.satp_base.proofs.Made.{among_cut}
+use Rattle.satp_base.proofs.Made.{GrowsBy, made_grows}
+use Rattle.satp_base.proofs.Standings.{take_nil}
 use Rattle.satp_base.proofs.Trails.{extended_none, extended_twice, keeps_before, keeps_front}
-use Rattle.satp_journal.specs.Opening.{IsInOpening, OpenAnswers, OpenStops, open_calls, read_calls}
-use Rattle.satp_journal.specs.State.{JournalState, gate_of}
-use Rattle.satp_journal.specs.declared.fault.JournalFault.{JournalFault}
-use Rattle.satp_journal.specs.declared.fault.JournalFault.TheVariants as journal
-use Rattle.satp_journal.proofs.AppendLemmas.{Keeps, made_trail, trail_is}
-use Rattle.satp_journal.proofs.OpenLemmas.{answers_stop, open_rests, opened_events}
-use Rattle.satp_gateway.specs.SettingUp.{FailsToEstablish, Opens, Plan, RestsSetUp, SetUpAnswers, founds, setup_calls, setup_events, tells}
-use Rattle.satp_gateway.specs.SetUpStops.{IsInSetUp, SetUpStops}
+use Rattle.satp_journal.specs.Opening.{IsInOpening, OpenStops, Rests}
+use Rattle.satp_journal.proofs.AppendLemmas.{Keeps, trail_is}
+use Rattle.satp_gateway.specs.SettingUp.{Establishes, IsVacant, Opens, Plan, RestsSetUp, Tells, VacancyAnswers, VacantAnswers, founds, setup_events, tells}
+use Rattle.satp_gateway.specs.SettingUp.{vacant as vacant_journal}
+use Rattle.satp_gateway.specs.SetUpStops.{HasFounded, IsInFounding, IsInSetUp, SetUpStops, VacantRests, VacantStops}
 use Rattle.satp_gateway.specs.declared.fault.SetUpFault.{SetUpFault}
-use Rattle.satp_gateway.specs.declared.fault.SetUpFault.TheVariants.{Already, Damaged, Site, Memory}
-use Rattle.satp_gateway.proofs.Deciding.{opens_stands}
+use Rattle.satp_gateway.proofs.Growing.{FoundingEvents, FoundsBy, NoneFounds, OpensBy, founds_by, none_founded, none_take, opening_by, opens_by}
 
-some_same : {x y : Told} → Some x ≡ Some y → x ≡ y
-some_same e = cc
-
-trail_of : (t u : Told) → Some u ≡ Some t → u.trail ≡ t.trail
-trail_of t u e = ap (λ (x : Told). x.trail) (some_same e)
-
-keeps_of : (u : Told) → KeepsModel u.trail → Keeps (Some u)
-keeps_of u keeps t e = subst (λ (x : Told). KeepsModel x.trail) (some_same e) keeps
-
--- ---- a founding changes no area
-
-stands_founded : (t : Trail) (area : Area) → standing (extended t (Founded ∷ [])) area ≡ standing t area
-stands_founded t area = fold-append (next area) (settled (t.start area)) t.events (Founded ∷ [])
+-- a founding changes no area
+stands_founded : (t : Trail) → standing (extended t (Founded ∷ [])) JournalA ≡ standing t JournalA
+stands_founded t = fold-append (next JournalA) (settled (t.start JournalA)) t.events (Founded ∷ [])
 
 rests_founded : (t : Trail) → RestsAt t JournalA [] → RestsAt (extended t (Founded ∷ [])) JournalA []
-rests_founded t rests image here = rests image (subst (λ (s : Standing). Leaves s image) (stands_founded t JournalA) here)
+rests_founded t rests image here = rests image (subst (λ (s : Standing). Leaves s image) (stands_founded t) here)
 
--- ---- an opening without a record
-
-opens_stops : (t m : Told) → KeepsModel m.trail → Opens [] (Some t) (Some m) → OpenStops JournalA (Some t) (Some m)
-opens_stops t m keeps (journal, list, answers) = answers_stop JournalA (Some t) (Some m) (Ok journal) (keeps_of m keeps) answers
-
-opens_rests : (t m : Told) → Opens [] (Some t) (Some m) → RestsAt m.trail JournalA []
-opens_rests t m (journal, list, (image, finds, is)) =
-    subst (λ (a : Area). RestsAt m.trail a []) finds.2 (subst (RestsAt m.trail journal.held.area) list (open_rests JournalA journal.held image (Some t) (Some m) finds is))
-
--- ---- the events of an opening found nothing
-
-abbrev IsQuiet : Event → Type 0
-IsQuiet event = event ≢ Founded
-
-quiet_append : (xs ys : List Event) → AllByRecursion IsQuiet xs → AllByRecursion IsQuiet ys → AllByRecursion IsQuiet (xs ++ ys)
-quiet_append [] ys a b = b
-quiet_append (x ∷ xs) ys a b = (a.0, quiet_append xs ys a.1 b)
-
-quiet_take : (n : ℕ) (xs : List Event) → AllByRecursion IsQuiet xs → AllByRecursion IsQuiet (take n xs)
-quiet_take zero xs a = tt
-quiet_take (suc n) [] a = tt
-quiet_take (suc n) (x ∷ xs) a = (a.0, quiet_take n xs a.1)
-
-quiet_cut : (whole events : List Event) → AllByRecursion IsQuiet whole → IsCut whole events → AllByRecursion IsQuiet events
-quiet_cut whole events a (n, inl is) = subst (AllByRecursion IsQuiet) (sym is) (quiet_take n whole a)
-quiet_cut whole events a (n, inr (area, bytes, of, is)) = subst (AllByRecursion IsQuiet) (sym is) (quiet_append (take n whole) (Left area bytes ∷ []) (quiet_take n whole a) ((λ e. cc), tt))
-
-quiet_not_founded : (before after : List Event) → AllByRecursion IsQuiet (before ++ Founded ∷ after) → ⊥
-quiet_not_founded [] after a = a.0 refl
-quiet_not_founded (x ∷ before) after a = quiet_not_founded before after a.1
-
-quiet_mend : (area : Area) (gate : ℕ) (writes : Bool) → AllByRecursion IsQuiet (Synced area ∷ (if writes then shut_events area gate else []))
-quiet_mend area gate true = ((λ e. cc), ((λ e. cc), ((λ e. cc), tt)))
-quiet_mend area gate false = ((λ e. cc), tt)
-
-quiet_open : (image : List ℕ) (gate : ℕ) → AllByRecursion IsQuiet (events_in (open_calls JournalA image gate))
-quiet_open image gate = subst (AllByRecursion IsQuiet) (sym (opened_events JournalA image gate)) (quiet_mend JournalA gate (wants_gate image gate))
-
-quiet_read : AllByRecursion IsQuiet (Synced JournalA ∷ [])
-quiet_read = ((λ e. cc), tt)
-
--- what an opening adds
-abbrev AddsQuiet : Told → Told → Type 0
-AddsQuiet t u = (events : List Event) × (u.trail ≡ extended t.trail events) × AllByRecursion IsQuiet events
-
-made_quiet : (t u : Told) (calls : List (Option Event)) → AllByRecursion IsQuiet (events_in calls) → Makes calls (Some t) (Some u) → AddsQuiet t u
-made_quiet t u calls quiet is = (events_in calls, made_trail t u calls is, quiet)
-
-failed_quiet : (t u : Told) (calls : List (Option Event)) → AllByRecursion IsQuiet (events_in calls) → FailsAmong calls (Some t) (Some u) → AddsQuiet t u
-failed_quiet t u calls quiet fails = let r = among_cut calls (Some t) (Some u) fails in (r.0, trail_is t u r.0 r.2, quiet_cut (events_in calls) r.0 quiet r.1)
-
-opening_quiet : (t u : Told) (result : Result JournalState JournalFault) → OpenAnswers JournalA (Some t) (Some u) result → AddsQuiet t u
-opening_quiet t u (Ok journal) (image, finds, is) = made_quiet t u (open_calls JournalA image (gate_of journal.held)) (quiet_open image (gate_of journal.held)) is
-opening_quiet t u (Err journal.Disk) (inl fails) = failed_quiet t u (read_calls JournalA) quiet_read fails
-opening_quiet t u (Err journal.Disk) (inr (image, held, finds, fails)) = failed_quiet t u (open_calls JournalA image (gate_of held)) (quiet_open image (gate_of held)) fails
-opening_quiet t u (Err journal.Memory) (inl is) = made_quiet t u (take 2 (read_calls JournalA)) quiet_read is
-opening_quiet t u (Err journal.Memory) (inr is) = made_quiet t u (read_calls JournalA) quiet_read is
-opening_quiet t u (Err (journal.Damaged at)) (image, read, damage, is) = made_quiet t u (read_calls JournalA) quiet_read is
-opening_quiet t u (Err journal.Broken) answers = absurd answers
-
--- the events that an opening's clause on stops speaks of
-quiet_in : (t u : Told) (result : Result JournalState JournalFault) → OpenAnswers JournalA (Some t) (Some u) result → (s : OpenStops JournalA (Some t) (Some u)) → AllByRecursion IsQuiet s.0
-quiet_in t u result answers s =
-    let q = opening_quiet t u result answers in
-    subst (AllByRecursion IsQuiet) (append_cancel_left t.trail.events q.0 s.0 (ap (λ (x : Trail). x.events) (sym q.1 ∙ s.1))) q.2
-
--- ---- each event
+nothing_founded : HasFounded [] → ⊥
+nothing_founded has = none_founded [] tt has
 
 module _ (p : Plan) where
-  opening : (t : Trail) (events : List Event) (image : List ℕ) → AllByRecursion IsQuiet events → IsInOpening t JournalA events image → IsInSetUp p t events image
-  opening t events image quiet s = record { opening = inl s; founded = λ (before, after, is). absurd (quiet_not_founded before after (subst (AllByRecursion IsQuiet) is quiet)) }
+  -- ---- over an open journal
 
-  opened_only : (t u : Told) (result : Result JournalState JournalFault) → Keeps (Some u) → OpenAnswers JournalA (Some t) (Some u) result → SetUpStops p (Some t) (Some u)
-  opened_only t u result keeps answers =
-      let s = answers_stop JournalA (Some t) (Some u) result keeps answers in
-      (s.0, s.1, λ n image here. opening t.trail (take n s.0) image (quiet_take n s.0 (quiet_in t u result answers s)) (s.2 n image here))
+  module _ (ok : IsPayload p.payload) (t : Trail) (rests : RestsAt t JournalA []) where
+    unfounded : (image : List ℕ) → IsImage (extended t []) JournalA image → IsInFounding p [] image
+    unfounded image here = record { before = λ none. rests image (subst (λ (x : Trail). IsImage x JournalA image) (extended_none t) here); after = λ has. absurd (nothing_founded has) }
 
-  module _ (ok : IsPayload p.payload) (t m : Told) (opens : Opens [] (Some t) (Some m)) (opening_was : OpenStops JournalA (Some t) (Some m)) where
+    -- from the founding on
+    appended : (es : List Event) → IsCut (setup_events p) es → KeepsModel (extended t (Founded ∷ es)) → (k : ℕ) (image : List ℕ) → IsImage (extended t (Founded ∷ take k es)) JournalA image → IsInAppend [] p.payload image
+    appended es cut keeps k image here =
+        append_leaves (extended t (Founded ∷ [])) JournalA [] p.payload (take k es) ok (rests_founded t rests) (cut_front (setup_events p) es cut k)
+        (subst KeepsModel (sym (extended_twice t (Founded ∷ []) (take k es))) (keeps_front t (Founded ∷ es) (suc k) keeps)) image (subst (λ (x : Trail). IsImage x JournalA image) (sym (extended_twice t (Founded ∷ []) (take k es))) here)
+
+    founded : (es : List Event) → IsCut (setup_events p) es → KeepsModel (extended t (Founded ∷ es)) → (n : ℕ) (image : List ℕ) → IsImage (extended t (take n (Founded ∷ es))) JournalA image → IsInFounding p (take n (Founded ∷ es)) image
+    founded es cut keeps zero image here = unfounded image here
+    founded es cut keeps (suc k) image here = record { before = λ none. absurd (none ([], take k es, refl)); after = λ has. appended es cut keeps k image here }
+
+    in_founding : (events : List Event) → FoundingEvents p events → KeepsModel (extended t events) → (n : ℕ) (image : List ℕ) → IsImage (extended t (take n events)) JournalA image → IsInFounding p (take n events) image
+    in_founding events (inl none) keeps n image here =
+        let e : take n events ≡ [] = ap (take n) none ∙ take_nil n in subst (λ (l : List Event). IsInFounding p l image) (sym e) (unfounded image (subst (λ (l : List Event). IsImage (extended t l) JournalA image) e here))
+    in_founding events (inr (es, is, cut)) keeps n image here =
+        subst (λ (l : List Event). IsInFounding p (take n l) image) (sym is)
+        (founded es cut (subst (λ (l : List Event). KeepsModel (extended t l)) is keeps) n image (subst (λ (l : List Event). IsImage (extended t (take n l)) JournalA image) is here))
+
+  vacant_by : IsPayload p.payload → (old new : Option Told) → Keeps new → FoundsBy p old new → VacantStops p old new
+  vacant_by ok None new keeps founds = tt
+  vacant_by ok (Some t) None keeps founds = λ rests. tt
+  vacant_by ok (Some t) (Some u) keeps (events, which, grows) = λ rests.
+      let e = trail_is t u events grows in (events, e, in_founding ok t.trail rests events which (subst KeepsModel e (keeps u refl)))
+
+  pub vacant_stops : IsPayload p.payload → (old new : Tells) (result : Result (Unit {0}) SetUpFault) → Keeps new.told → VacantAnswers p old new result → VacantStops p old.told new.told
+  vacant_stops ok old new result keeps answers = vacant_by ok old.told new.told keeps (founds_by p old new result answers)
+
+  pub vacant_rests : IsPayload p.payload → (old : Option Told) (new : Tells) → Keeps new.told → Establishes p old new → VacantRests p old new.told
+  vacant_rests ok old new keeps is = by old new.told keeps (founds_by p (tells old None) new (Ok tt) is) is.0
+    where
+      by : (o n : Option Told) → Keeps n → FoundsBy p o n → Makes (calls_of (setup_events p)) (option_map (founds p) o) n → VacantRests p o n
+      by None n keeps grows makes = tt
+      by (Some t) None keeps grows makes = λ rests. tt
+      by (Some t) (Some u) keeps grows makes = λ rests.
+          let e : u.trail ≡ extended (extended t.trail (Founded ∷ [])) (setup_events p) = trail_is (founds p t) u (setup_events p) (made_grows 4 (setup_events p) (Some (founds p t)) (Some u) makes) in
+          subst (λ (x : Trail). RestsAt x JournalA (p.payload ∷ [])) (sym e)
+          (append_ends (extended t.trail (Founded ∷ [])) JournalA [] p.payload ok (rests_founded t.trail rests) (keeps_before (extended t.trail (Founded ∷ [])) (setup_events p) (subst KeepsModel e (keeps u refl))))
+
+  -- ---- all of it
+
+  -- an opening, which founds nothing
+  module _ (t m : Told) (stops : OpenStops JournalA (Some t) (Some m)) (by : OpensBy (Some t) (Some m)) where
     abbrev first : List Event
-    first = opening_was.0
+    first = stops.0
 
-    first_is : m.trail ≡ extended t.trail first
-    first_is = opening_was.1
+    first_none : NoneFounds first
+    first_none = subst NoneFounds (append_cancel_left t.trail.events by.0 first (ap (λ (x : Trail). x.events) (sym (trail_is t m by.0 by.2) ∙ stops.1))) by.1
 
-    first_quiet : AllByRecursion IsQuiet first
-    first_quiet = quiet_in t m (Ok opens.0) opens.2 opening_was
+    early : (n : ℕ) (image : List ℕ) → IsImage (extended t.trail (take n first)) JournalA image → IsInSetUp p t.trail (take n first) image
+    early n image here = record { before = λ none. stops.2 n image here; after = λ has. absurd (none_founded (take n first) (none_take n first first_none) has) }
 
-    -- the trail when the ledger was founded
-    abbrev founded_trail : Trail
-    founded_trail = extended m.trail (Founded ∷ [])
+    pub opening_alone : SetUpStops p (Some t) (Some m)
+    opening_alone = (first, stops.1, early)
 
-    along : (es : List Event) → extended t.trail (first ++ Founded ∷ es) ≡ extended founded_trail es
-    along es =
-        ap (extended t.trail) (sym (append_assoc first (Founded ∷ []) es))
-        ∙ sym (extended_twice t.trail (first ++ Founded ∷ []) es)
-        ∙ ap (λ (x : Trail). extended x es) (sym (extended_twice t.trail first (Founded ∷ [])) ∙ ap (λ (x : Trail). extended x (Founded ∷ [])) (sym first_is))
+    module _ (ok : IsPayload p.payload) (rests : RestsAt m.trail JournalA []) where
+      along : (es : List Event) → extended t.trail (first ++ es) ≡ extended m.trail es
+      along es = sym (extended_twice t.trail first es) ∙ ap (λ (x : Trail). extended x es) (sym stops.1)
 
-    late : (es : List Event) → IsCut (setup_events p) es → KeepsModel (extended founded_trail es) → (image : List ℕ) → IsImage (extended t.trail (first ++ Founded ∷ es)) JournalA image
-        → IsInSetUp p t.trail (first ++ Founded ∷ es) image
-    late es cut keeps image here = record {
-      opening = inr (first, es, refl);
-      founded = λ f. (
-        opens_stands [] t (Some m) opens,
-        append_leaves founded_trail JournalA [] p.payload es ok (rests_founded m.trail (opens_rests t m opens)) cut keeps image (subst (λ (x : Trail). IsImage x JournalA image) (along es) here),
-      );
-    }
+      late : (es : List Event) → IsCut (setup_events p) es → KeepsModel (extended m.trail (Founded ∷ es)) → (n : ℕ) (image : List ℕ) → IsImage (extended t.trail (take n (first ++ Founded ∷ es))) JournalA image → IsInSetUp p t.trail (take n (first ++ Founded ∷ es)) image
+      late es cut keeps n image here = at (cases_lt (length first) n)
+        where
+          at : (length first < n) ⊎ (n ≤ length first) → IsInSetUp p t.trail (take n (first ++ Founded ∷ es)) image
+          at (inr le) =
+              let front = take-append-le n first (Founded ∷ es) le in
+              subst (λ (l : List Event). IsInSetUp p t.trail l image) (sym front) (early n image (subst (λ (l : List Event). IsImage (extended t.trail l) JournalA image) front here))
+          at (inl lt) =
+              let k = n - length first - 1 in
+              let is_n : n ≡ length first + suc k = omega (arith, lt) in
+              let front : take n (first ++ Founded ∷ es) ≡ first ++ Founded ∷ take k es = ap (λ (i : ℕ). take i (first ++ Founded ∷ es)) is_n ∙ take-append-add first (Founded ∷ es) (suc k) in
+              subst (λ (l : List Event). IsInSetUp p t.trail l image) (sym front) (record {
+                before = λ none. absurd (none (first, take k es, refl));
+                after = λ has. appended ok m.trail rests es cut keeps k image
+                    (subst (λ (x : Trail). IsImage x JournalA image) (along (Founded ∷ take k es)) (subst (λ (l : List Event). IsImage (extended t.trail l) JournalA image) front here));
+              })
 
-    further : (u : Told) (es : List Event) → KeepsModel u.trail → IsCut (setup_events p) es → u.trail ≡ extended founded_trail es → SetUpStops p (Some t) (Some u)
-    further u es keeps cut is = (first ++ Founded ∷ es, is ∙ sym (along es), λ n image here. at n image (cases_lt (length first) n) here)
-      where
-        at : (n : ℕ) (image : List ℕ) → (length first < n) ⊎ (n ≤ length first) → IsImage (extended t.trail (take n (first ++ Founded ∷ es))) JournalA image → IsInSetUp p t.trail (take n (first ++ Founded ∷ es)) image
-        at n image (inr le) here =
-            let front = take-append-le n first (Founded ∷ es) le in
-            subst (λ (l : List Event). IsInSetUp p t.trail l image) (sym front)
-            (opening t.trail (take n first) image (quiet_take n first first_quiet) (opening_was.2 n image (subst (λ (l : List Event). IsImage (extended t.trail l) JournalA image) front here)))
-        at n image (inl lt) here =
-            let k = n - length first - 1 in
-            let is_n : n ≡ length first + suc k = omega (arith, lt) in
-            let front : take n (first ++ Founded ∷ es) ≡ first ++ Founded ∷ take k es = ap (λ (i : ℕ). take i (first ++ Founded ∷ es)) is_n ∙ take-append-add first (Founded ∷ es) (suc k) in
-            subst (λ (l : List Event). IsInSetUp p t.trail l image) (sym front)
-            (late (take k es) (cut_front (setup_events p) es cut k) (keeps_front founded_trail es k (subst KeepsModel is keeps)) image
-            (subst (λ (l : List Event). IsImage (extended t.trail l) JournalA image) front here))
+      pub then_founding : (u : Told) → KeepsModel u.trail → FoundsBy p (Some m) (Some u) → SetUpStops p (Some t) (Some u)
+      then_founding u keeps (events, inl none, grows) =
+          let same : u.trail ≡ m.trail = trail_is m u events grows ∙ ap (extended m.trail) none ∙ extended_none m.trail in (first, same ∙ stops.1, early)
+      then_founding u keeps (events, inr (es, is, cut), grows) =
+          let e : u.trail ≡ extended m.trail (Founded ∷ es) = trail_is m u events grows ∙ ap (extended m.trail) is in (first ++ Founded ∷ es, e ∙ sym (along (Founded ∷ es)), late es cut (subst KeepsModel e keeps))
 
-  -- ---- the whole set-up
+  pub unopened_stops : (fault : SetUpFault) (old new : Tells) → VacancyAnswers {V = Unit {0}} old new (Err fault) → OpenStops JournalA old.told new.told → SetUpStops p old.told new.told
+  unopened_stops fault old new answers stops = by old.told new.told stops (opening_by fault old new answers)
+    where
+      by : (o n : Option Told) → OpenStops JournalA o n → OpensBy o n → SetUpStops p o n
+      by None n stops opens = tt
+      by (Some t) None stops opens = tt
+      by (Some t) (Some u) stops opens = opening_alone t u stops opens
 
-  founding_stops : (ok : IsPayload p.payload) (t m u : Told) (events : List Event) → KeepsModel u.trail → Opens [] (Some t) (Some m) → (events ≡ Founded ∷ []) ⊎ (events ≡ []) → u.trail ≡ extended m.trail events → SetUpStops p (Some t) (Some u)
-  founding_stops ok t m u events keeps opens (inl one) is =
-      let e = is ∙ ap (extended m.trail) one in
-      let keeps_m = keeps_before m.trail (Founded ∷ []) (subst KeepsModel e keeps) in
-      further ok t m opens (opens_stops t m keeps_m opens) u [] keeps (0, inl refl) (e ∙ sym (extended_none (extended m.trail (Founded ∷ []))))
-  founding_stops ok t m u events keeps opens (inr none) is =
-      let e : u.trail ≡ m.trail = is ∙ ap (extended m.trail) none ∙ extended_none m.trail in
-      let s = opened_only t m (Ok opens.0) (keeps_of m (subst KeepsModel e keeps)) opens.2 in (s.0, e ∙ s.1, s.2)
+  pub opened_stops : IsPayload p.payload → (old opened new : Tells) (result : Result (Unit {0}) SetUpFault) → Keeps new.told → IsVacant old opened → OpenStops JournalA old.told opened.told → Rests opened.told vacant_journal
+      → VacantAnswers p opened new result → SetUpStops p old.told new.told
+  opened_stops ok old opened new result keeps vacant stops rests answers = by old.told opened.told new.told keeps vacant.0 stops rests (founds_by p opened new result answers)
+    where
+      by : (o m n : Option Told) → Keeps n → Opens [] o m → OpenStops JournalA o m → Rests m vacant_journal → FoundsBy p m n → SetUpStops p o n
+      by None m n keeps opens stops rests founds = tt
+      by (Some t) m None keeps opens stops rests founds = tt
+      by (Some t) None (Some u) keeps opens stops rests founds = absurd (let e = opens.2.2 in cc)
+      by (Some t) (Some m) (Some u) keeps opens stops rests founds = then_founding t m stops (opens_by [] (Some t) (Some m) opens) ok rests u (keeps u refl) founds
 
-  storing_stops : (ok : IsPayload p.payload) (t m u : Told) (es : List Event) → KeepsModel u.trail → Opens [] (Some t) (Some m) → IsCut (setup_events p) es → u.trail ≡ extended (extended m.trail (Founded ∷ [])) es → SetUpStops p (Some t) (Some u)
-  storing_stops ok t m u es keeps opens cut e =
-      let keeps_f = keeps_before (extended m.trail (Founded ∷ [])) es (subst KeepsModel e keeps) in
-      further ok t m opens (opens_stops t m (keeps_before m.trail (Founded ∷ []) keeps_f) opens) u es keeps cut e
-
-  establishing_stops : (ok : IsPayload p.payload) (t m u : Told) (book : Option Book) → KeepsModel u.trail → Opens [] (Some t) (Some m) → FailsToEstablish p (Some m) (tells (Some u) book) → SetUpStops p (Some t) (Some u)
-  establishing_stops ok t m u book keeps opens (inl ((events, which, inl named), none)) = founding_stops ok t m u events keeps opens which (trail_of (ask_failed (Found p.kind p.genesis) events m) u named)
-  establishing_stops ok t m u book keeps opens (inl ((events, which, inr counted), none)) = founding_stops ok t m u events keeps opens which (trail_of (call_failed events m) u counted)
-  establishing_stops ok t m u book keeps opens (inr (fails, genesis)) = let r = among_cut (setup_calls p) (Some (founds p m)) (Some u) fails in storing_stops ok t m u r.0 keeps opens r.1 (trail_is (founds p m) u r.0 r.2)
-
-  pub stops : IsPayload p.payload → (old new : Option Told) (before behind : Option Book) (result : Result (Unit {0}) SetUpFault) → Keeps new → SetUpAnswers p (tells old before) (tells new behind) result → SetUpStops p old new
-  stops ok None new before behind result keeps answers = tt
-  stops ok (Some t) None before behind result keeps answers = tt
-  stops ok (Some t) (Some u) before behind (Ok done) keeps (None, opens, is) = absurd (let e = opens.2.2 in cc)
-  stops ok (Some t) (Some u) before behind (Ok done) keeps (Some m, opens, is) = storing_stops ok t m u (setup_events p) (keeps u refl) opens (4, inl refl) (made_trail (founds p m) u (setup_calls p) is.0)
-  stops ok (Some t) (Some u) before behind (Err Already) keeps ((payloads, some, (journal, list, answers)), same) = opened_only t u (Ok journal) keeps answers
-  stops ok (Some t) (Some u) before behind (Err (Damaged at)) keeps (answers, same) = opened_only t u (Err (journal.Damaged at)) keeps answers
-  stops ok (Some t) (Some u) before behind (Err Site) keeps (inl (answers, same)) = opened_only t u (Err journal.Disk) keeps answers
-  stops ok (Some t) (Some u) before behind (Err Site) keeps (inr (None, opens, fails)) = absurd (let e = opens.2.2 in cc)
-  stops ok (Some t) (Some u) before behind (Err Site) keeps (inr (Some m, opens, fails)) = establishing_stops ok t m u behind (keeps u refl) opens fails
-  stops ok (Some t) (Some u) before behind (Err Memory) keeps (inl (answers, same)) = opened_only t u (Err journal.Memory) keeps answers
-  stops ok (Some t) (Some u) before behind (Err Memory) keeps (inr ((journal, list, answers), same)) = opened_only t u (Ok journal) keeps answers
-
-  stored_rests : IsPayload p.payload → (t m u : Told) → KeepsModel u.trail → Opens [] (Some t) (Some m) → Makes (setup_calls p) (Some (founds p m)) (Some u) → RestsAt u.trail JournalA (p.payload ∷ [])
-  stored_rests ok t m u keeps opens is =
-      let founded = extended m.trail (Founded ∷ []) in
-      let e : u.trail ≡ extended founded (setup_events p) = made_trail (founds p m) u (setup_calls p) is in
-      subst (λ (x : Trail). RestsAt x JournalA (p.payload ∷ [])) (sym e)
-      (append_ends founded JournalA [] p.payload ok (rests_founded m.trail (opens_rests t m opens)) (keeps_before founded (setup_events p) (subst KeepsModel e keeps)))
-
-  pub rests : IsPayload p.payload → (old new : Option Told) (before behind : Option Book) (result : Result (Unit {0}) SetUpFault) → Keeps new → SetUpAnswers p (tells old before) (tells new behind) result → OnOk result (RestsSetUp p new)
-  rests ok old new before behind (Err fault) keeps answers = tt
-  rests ok old None before behind (Ok done) keeps answers = tt
-  rests ok None (Some u) before behind (Ok done) keeps (None, opens, is) = absurd (let e = is.0 in cc)
-  rests ok None (Some u) before behind (Ok done) keeps (Some m, opens, is) = absurd (let e = opens.2.2 in cc)
-  rests ok (Some t) (Some u) before behind (Ok done) keeps (None, opens, is) = absurd (let e = opens.2.2 in cc)
-  rests ok (Some t) (Some u) before behind (Ok done) keeps (Some m, opens, is) = stored_rests ok t m u (keeps u refl) opens is.0
+  pub rests_set_up : (opened new : Option Told) → Makes (calls_of (setup_events p)) (option_map (founds p) opened) new → Rests opened vacant_journal → VacantRests p opened new → RestsSetUp p new
+  rests_set_up None None is rests still = tt
+  rests_set_up None (Some u) is rests still = absurd cc
+  rests_set_up (Some m) None is rests still = tt
+  rests_set_up (Some m) (Some u) is rests still = still rests

@@ -1,13 +1,13 @@
 -- What a stop leaves of a set-up.
-use Rattle.std.specs.Prelude.{◌≡◌, ◌⊎◌, ℕ, List, [], ◌∷◌, ◌++◌, Option, IfSome}
+use Rattle.std.specs.Prelude.{◌≡◌, ℕ, List, [], ◌∷◌, ◌++◌, Option, IfSome}
 use Rattle.satp_base.specs.Calls.{Told}
-use Rattle.satp_base.specs.Format.{Stands}
-use Rattle.satp_base.specs.Laws.{IsInAppend}
-use Rattle.satp_base.specs.Trail.{Trail, seen}
+use Rattle.satp_base.specs.Format.{IsAtRest}
+use Rattle.satp_base.specs.Laws.{IsInAppend, RestsAt}
+use Rattle.satp_base.specs.Trail.{Trail}
 use Rattle.satp_base.specs.declared.area.Area.TheVariants.{JournalA}
 use Rattle.satp_base.specs.declared.area.Event.{Event}
 use Rattle.satp_base.specs.declared.area.Event.TheVariants.{Founded}
-use Rattle.satp_journal.specs.Appending.{AtEach}
+use Rattle.satp_journal.specs.Appending.{AtEach, RestsStill}
 use Rattle.satp_journal.specs.Opening.{IsInOpening}
 use Rattle.satp_gateway.specs.SettingUp.{Plan}
 
@@ -15,11 +15,29 @@ use Rattle.satp_gateway.specs.SettingUp.{Plan}
 abbrev pub HasFounded : List Event → Type 0
 HasFounded events = (before : List Event) × (after : List Event) × (events ≡ before ++ Founded ∷ after)
 
--- Up to the founding, an image of the journal's opening. From the founding on what was read stands for no record, and the image is one of the append of the
--- set-up's record: so, whatever gate was read, a second set-up finds nothing or that record alone.
+-- ---- over an open journal
+
+-- Until the founding, an image at rest without a record. From then on one of the append of the set-up's record to a journal without any: so it stands for
+-- no record or for that one alone.
+pub record IsInFounding (p : Plan) (events : List Event) (image : List ℕ) : Type 0 where
+  pub before : ¬ HasFounded events → IsAtRest [] image
+  pub after : HasFounded events → IsInAppend [] p.payload image
+
+-- at each event of a set-up over a journal that is at rest without a record
+abbrev pub VacantStops : Plan → Option Told → Option Told → Type 0
+VacantStops p old new = IfSome old (λ t. RestsAt t.trail JournalA [] → IfSome new (λ u. AtEach JournalA t.trail u.trail (IsInFounding p)))
+
+-- a journal that was at rest without a record is at rest with the record of the set-up alone
+abbrev pub VacantRests : Plan → Option Told → Option Told → Type 0
+VacantRests p old new = RestsStill JournalA [] (p.payload ∷ []) old new
+
+-- ---- all of it
+
+-- Until the founding, an image of an opening of the journal. From then on, whatever the journal's bytes were, one of the append of the set-up's record to a
+-- journal without any.
 pub record IsInSetUp (p : Plan) (t : Trail) (events : List Event) (image : List ℕ) : Type 0 where
-  pub opening : IsInOpening t JournalA events image ⊎ HasFounded events
-  pub founded : HasFounded events → Stands (seen t JournalA) [] × IsInAppend [] p.payload image
+  pub before : ¬ HasFounded events → IsInOpening t JournalA events image
+  pub after : HasFounded events → IsInAppend [] p.payload image
 
 -- at each event of the set-up
 abbrev pub SetUpStops : Plan → Option Told → Option Told → Type 0

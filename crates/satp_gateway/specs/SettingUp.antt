@@ -1,7 +1,7 @@
 -- What a set-up answers, and what it leaves.
-use Rattle.std.specs.Prelude.{◌≡◌, ◌≢◌, ◌⊎◌, ℕ, List, [], ◌∷◌, ◌++◌, Option, None, IfSome, option_map, Result, Ok, Err}
-use Rattle.satp_base.specs.Acts.{Asks, FoundEvents, FoundsBook}
-use Rattle.satp_base.specs.Calls.{Ask, Told, FailsAmong, Makes, asked, calls_of}
+use Rattle.std.specs.Prelude.{◌≡◌, ◌≢◌, ◌⊎◌, ℕ, ◌+◌, false, List, [], ◌∷◌, ◌++◌, length, Option, Some, None, IfSome, OnSome, option_map, Result, Ok, Err}
+use Rattle.satp_base.specs.Acts.{Asks, FoundEvents, FoundsBook, founded}
+use Rattle.satp_base.specs.Calls.{Ask, Told, asked, calls_of, FailsAmong, Makes}
 use Rattle.satp_base.specs.Format.{Damage, Stands}
 use Rattle.satp_base.specs.Founding.{Founding}
 use Rattle.satp_base.specs.Laws.{RestsAt}
@@ -14,7 +14,7 @@ use Rattle.satp_base.specs.declared.area.Event.TheVariants.{Founded}
 use Rattle.satp_base.specs.declared.ledger.LedgerCall.TheVariants.{Found}
 use Rattle.satp_base.specs.declared.ledger.LedgerKind.{LedgerKind}
 use Rattle.satp_journal.specs.Opening.{OpenAnswers}
-use Rattle.satp_journal.specs.State.{JournalState}
+use Rattle.satp_journal.specs.State.{Held, JournalState}
 use Rattle.satp_journal.specs.declared.fault.JournalFault.{JournalFault}
 use Rattle.satp_journal.specs.declared.fault.JournalFault.TheVariants as journal
 use Rattle.satp_records.specs.Formats.{payload_of}
@@ -54,12 +54,25 @@ Opens payloads old new =
 abbrev pub FailsToOpen : JournalFault → Option Told → Option Told → Type 0
 FailsToOpen fault old new = OpenAnswers JournalA old new (Err fault)
 
+-- the journal was opened and has no record; the ledger is left alone
+abbrev pub IsVacant : Tells → Tells → Type 0
+IsVacant old new = Opens [] old.told new.told × (new.book ≡ old.book)
+
 -- There is no open journal without a record: it has some, or the opening failed. The ledger is left alone.
 abbrev pub NotVacant : SetUpFault → Tells → Tells → Type 0
 NotVacant Already old new = ((payloads : List (List ℕ)) × (payloads ≢ []) × Opens payloads old.told new.told) × (new.book ≡ old.book)
 NotVacant (Damaged at) old new = FailsToOpen (journal.Damaged at) old.told new.told × (new.book ≡ old.book)
 NotVacant Site old new = FailsToOpen journal.Disk old.told new.told × (new.book ≡ old.book)
 NotVacant Memory old new = FailsToOpen journal.Memory old.told new.told × (new.book ≡ old.book)
+
+-- what the opening of a journal that must have no record answers
+abbrev pub VacancyAnswers : {V : Type 0} → Tells → Tells → Result V SetUpFault → Type 0
+VacancyAnswers old new (Ok vacancy) = IsVacant old new
+VacancyAnswers old new (Err fault) = NotVacant fault old new
+
+-- an open journal without a record
+abbrev pub vacant : Held
+vacant = record { area = JournalA; payloads = []; broken = false }
 
 -- ---- the ledger and the record
 
@@ -84,28 +97,34 @@ TellsGenesis p new = FoundsBook p.genesis done new.told new.book
 abbrev pub setup_events : Plan → List Event
 setup_events p = append_events JournalA 0 p.payload
 
-abbrev pub setup_calls : Plan → List (Option Event)
-setup_calls p = calls_of (setup_events p)
-
--- over an open journal without a record: the ledger was founded, and after it the record was stored
+-- over an open journal without a record: the ledger was founded, and then the record was stored
 abbrev pub Establishes : Plan → Option Told → Tells → Type 0
-Establishes p old new = Makes (setup_calls p) (option_map (founds p) old) new.told × TellsGenesis p new
+Establishes p old new = Makes (calls_of (setup_events p)) (option_map (founds p) old) new.told × TellsGenesis p new
 
 -- The founding failed, and nothing is told of the ledger; or the ledger was founded, and a call of the append failed.
 abbrev pub FailsToEstablish : Plan → Option Told → Tells → Type 0
 FailsToEstablish p old new =
     (FailsToFound p old new.told × (new.book ≡ None))
-    ⊎ (FailsAmong (setup_calls p) (option_map (founds p) old) new.told × TellsGenesis p new)
+    ⊎ (FailsAmong (calls_of (setup_events p)) (option_map (founds p) old) new.told × TellsGenesis p new)
+
+-- What a set-up over an open journal without a record answers. Memory is taken first; then the ledger is founded, and then the record is stored.
+abbrev pub VacantAnswers : Plan → Tells → Tells → Result (Unit {0}) SetUpFault → Type 0
+VacantAnswers p old new (Ok done) = Establishes p old.told new
+VacantAnswers p old new (Err Site) = FailsToEstablish p old.told new
+VacantAnswers p old new (Err Memory) = (new.told ≡ old.told) × (new.book ≡ old.book)
+VacantAnswers p old new (Err Already) = ⊥
+VacantAnswers p old new (Err (Damaged at)) = ⊥
 
 -- ---- all of it
 
--- The journal is opened. Where it has no record, memory is taken first; then the ledger is founded, and then the record is stored.
+-- the journal was opened and has no record, and the set-up over it answered this
+abbrev pub SetsUpVacant : Plan → Tells → Tells → Result (Unit {0}) SetUpFault → Type 0
+SetsUpVacant p old new result = (opened : Tells) × IsVacant old opened × VacantAnswers p opened new result
+
+-- The journal is opened. Where it has no record, the gateway is set up over it.
 abbrev pub SetUpAnswers : Plan → Tells → Tells → Result (Unit {0}) SetUpFault → Type 0
-SetUpAnswers p old new (Ok done) = (opened : Option Told) × Opens [] old.told opened × Establishes p opened new
-SetUpAnswers p old new (Err Already) = NotVacant Already old new
-SetUpAnswers p old new (Err (Damaged at)) = NotVacant (Damaged at) old new
-SetUpAnswers p old new (Err Site) = NotVacant Site old new ⊎ ((opened : Option Told) × Opens [] old.told opened × FailsToEstablish p opened new)
-SetUpAnswers p old new (Err Memory) = NotVacant Memory old new ⊎ (Opens [] old.told new.told × (new.book ≡ old.book))
+SetUpAnswers p old new (Ok done) = SetsUpVacant p old new (Ok done)
+SetUpAnswers p old new (Err fault) = NotVacant fault old new ⊎ SetsUpVacant p old new (Err fault)
 
 -- this answer, unless a call failed or no memory was found
 abbrev pub UnlessFailed : Result (Unit {0}) SetUpFault → Result (Unit {0}) SetUpFault → Type 0
@@ -124,7 +143,8 @@ SetUpDecided old result = IfSome old (λ t. DecidedBy (seen t.trail JournalA) re
 -- Of the calls on a ledger at most one is made: a founding by this plan, and none where the journal has a record.
 abbrev pub FoundsOnce : Plan → Option Told → Option Told → Type 0
 FoundsOnce p old new =
-    IfSome old (λ t. IfSome new (λ u. (u.asks ≡ t.asks) ⊎ (Stands (seen t.trail JournalA) [] × ((ask : Ask) × (ask.call ≡ Found p.kind p.genesis) × (u.asks ≡ t.asks ++ ask ∷ [])))))
+    IfSome old (λ t. IfSome new (λ u.
+    (u.asks ≡ t.asks) ⊎ (Stands (seen t.trail JournalA) [] × ((ask : Ask) × (ask.call ≡ Found p.kind p.genesis) × (u.asks ≡ t.asks ++ ask ∷ [])))))
 
 -- each image of the journal's area is the record of the set-up alone, at rest
 abbrev pub RestsSetUp : Plan → Option Told → Type 0

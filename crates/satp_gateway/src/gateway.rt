@@ -4,7 +4,7 @@ ghost use Rattle.satp_gateway.specs.SettingUp.{FoundsOnce, RestsSetUp, SetUpAnsw
 ghost use Rattle.satp_gateway.specs.SetUpStops.{SetUpStops};
 
 use crate::fault::SetUpFault;
-use crate::set_up::set_up;
+use crate::vacancy::Vacancy;
 use satp_base::{Genesis, LedgerKind, Site};
 use satp_records::Setup;
 use std::alloc::Global;
@@ -18,9 +18,8 @@ impl Gateway {
     /// The key has 32 to 64 bytes, and the peer isn't the gateway itself.
     ///
     /// `Already` comes exactly where the journal has a record, and `Damaged` exactly where its bytes stand for no list; both leave the ledger alone.
-    /// `Site` comes only where the site's count of faults rose. `Memory` comes before the ledger is founded, and leaves it alone.
-    /// After a stop or after `Site` the journal is as a stopped opening leaves it, or, once the ledger was founded, has no record or that one alone.
-    /// A set-up that follows finds one of them.
+    /// `Site` comes only where the site's count of faults rose, and every other answer leaves the count. `Memory` comes before the ledger is founded, and leaves it alone.
+    /// Until the ledger is founded, what a stop or `Site` leaves of the journal is what an opening of it leaves. From then on the journal has no record or that one alone.
     pub fn set_up<S: Site>(
         alloc: Global,
         site: &mut S,
@@ -36,9 +35,13 @@ impl Gateway {
         ensures rests { OnOk result (RestsSetUp (plan setup.now kind genesis.now) (S.told site.new)) }
         ensures once { FoundsOnce (plan setup.now kind genesis.now) (S.told site.old) (S.told site.new) }
         ensures stops { SetUpStops (plan setup.now kind genesis.now) (S.told site.old) (S.told site.new) }
+        ensures beside { S.beside site.old site.new }
         ensures later { S.faults site.old ≤ S.faults site.new }
         ensures cause { IfErr result (λ fault. fault ≡ SetUpFault.Site → Rose (S.faults site.old) (S.faults site.new)) }
+        ensures kept { OnOk result (S.faults site.new ≡ S.faults site.old) }
+        ensures still { IfErr result (λ fault. fault ≢ SetUpFault.Site → S.faults site.new ≡ S.faults site.old) }
     {
-        set_up(alloc, site, setup, kind, genesis)
+        let vacancy = Vacancy::open(alloc, site)?;
+        vacancy.set_up(alloc, site, setup, kind, genesis)
     }
 }

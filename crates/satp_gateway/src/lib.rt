@@ -5,6 +5,8 @@ mod fault;
 mod gateway;
 mod payload;
 mod set_up;
+mod vacancy;
 
 pub use fault::SetUpFault;
 pub use gateway::Gateway;
+pub use vacancy::Vacancy;

@@ -1,47 +1,27 @@
-//! The steps of a set-up. All memory is taken before the ledger is founded.
+//! The steps of a set-up.
 
-ghost use Rattle.std.specs.Prelude.{◌≡◌, ◌≤◌, length, IfOk, IfErr, OnOk, OnErr};
+ghost use Rattle.std.specs.Prelude.{◌≡◌, ◌≤◌, length, OnOk, OnErr};
 ghost use Rattle.satp_base.specs.Calls.{FailsAmong, Makes, calls_of};
 ghost use Rattle.satp_base.specs.Format.{IsPayload};
 ghost use Rattle.satp_base.specs.Segments.{append_events};
-ghost use Rattle.satp_base.specs.Streams.{HasCause, Rose};
+ghost use Rattle.satp_base.specs.Streams.{HasCause};
 ghost use Rattle.satp_base.specs.declared.area.Area.TheVariants.{JournalA};
 ghost use Rattle.satp_journal.specs.State.{Fits};
-ghost use Rattle.satp_records.specs.Formats.{IsFormed};
-ghost use Rattle.satp_records.specs.declared.stored.Stored.TheVariants as stored;
-ghost use Rattle.satp_gateway.specs.SettingUp.{Establishes, FailsToEstablish, SetUpAnswers, plan, plan_of, tells};
-ghost use Rattle.satp_gateway.specs.Steps.{OpensVacant, set_up_fault, vacant};
+ghost use Rattle.satp_gateway.specs.SettingUp.{Establishes, FailsToEstablish, plan_of, tells, vacant};
+ghost use Rattle.satp_gateway.specs.Steps.{set_up_fault};
 
 use crate::fault::SetUpFault;
-use crate::payload::setup_payload;
-use satp_base::{Area, Genesis, LedgerKind, Site, SiteFault};
+use satp_base::{Genesis, LedgerKind, Site, SiteFault};
 use satp_journal::{Journal, JournalFault};
-use satp_records::Setup;
-use std::alloc::Global;
 
 /// What it says of a set-up that the journal wasn't opened.
-fn not_opened(fault: JournalFault) -> SetUpFault
+pub(crate) fn not_opened(fault: JournalFault) -> SetUpFault
     ensures { result ≡ set_up_fault fault }
 {
     match fault {
         JournalFault::Damaged { at } => SetUpFault::Damaged { at },
         JournalFault::Memory => SetUpFault::Memory,
         JournalFault::Disk | JournalFault::Broken => SetUpFault::Site,
-    }
-}
-
-/// Opens a journal that has no record.
-fn open_vacant<S: Site>(alloc: Global, site: &mut S) -> Result<Journal, SetUpFault>
-    ensures answers { OpensVacant (tells (S.told site.old) (S.book site.old)) (tells (S.told site.new) (S.book site.new)) result }
-    ensures vacant { IfOk result (λ journal. journal.held ≡ vacant) }
-    ensures fits { IfOk result (λ journal. Fits journal.held (S.told site.new)) }
-    ensures later { S.faults site.old ≤ S.faults site.new }
-    ensures cause { IfErr result (λ fault. fault ≡ SetUpFault.Site → Rose (S.faults site.old) (S.faults site.new)) }
-{
-    match Journal::open(alloc, site, Area::JournalA) {
-        Ok(journal) if journal.count() == 0 => Ok(journal),
-        Ok(_) => Err(SetUpFault::Already),
-        Err(fault) => Err(not_opened(fault)),
     }
 }
 
@@ -55,6 +35,7 @@ fn store<S: Site>(site: &mut S, journal: &mut Journal, payload: &[u8]) -> Result
     ensures ok { OnOk result (Makes (calls_of (append_events JournalA 0 payload.now)) (S.told site.old) (S.told site.new)) }
     ensures err { OnErr result (FailsAmong (calls_of (append_events JournalA 0 payload.now)) (S.told site.old) (S.told site.new)) }
     ensures ledger { S.book site.new ≡ S.book site.old }
+    ensures beside { S.beside site.old site.new }
     ensures cause { HasCause (S.faults site.old) (S.faults site.new) result }
 {
     match journal.append(site, payload) {
@@ -64,8 +45,8 @@ fn store<S: Site>(site: &mut S, journal: &mut Journal, payload: &[u8]) -> Result
     }
 }
 
-/// Founds the ledger, and behind it stores the payload.
-fn establish<S: Site>(
+/// Founds the ledger, and then stores the payload.
+pub(crate) fn establish<S: Site>(
     site: &mut S,
     journal: &mut Journal,
     payload: &[u8],
@@ -79,28 +60,9 @@ fn establish<S: Site>(
     requires payload { IsPayload payload.now }
     ensures ok { OnOk result (Establishes (plan_of payload.now kind genesis.now) (S.told site.old) (tells (S.told site.new) (S.book site.new))) }
     ensures err { OnErr result (FailsToEstablish (plan_of payload.now kind genesis.now) (S.told site.old) (tells (S.told site.new) (S.book site.new))) }
+    ensures beside { S.beside site.old site.new }
     ensures cause { HasCause (S.faults site.old) (S.faults site.new) result }
 {
     site.found(kind, genesis)?;
     store(site, journal, payload)
-}
-
-/// Sets a gateway up.
-pub(crate) fn set_up<S: Site>(
-    alloc: Global,
-    site: &mut S,
-    setup: &Setup,
-    kind: LedgerKind,
-    genesis: &Genesis,
-) -> Result<(), SetUpFault>
-    requires { IsFormed (stored.Setup setup.now) }
-    ensures answers { SetUpAnswers (plan setup.now kind genesis.now) (tells (S.told site.old) (S.book site.old)) (tells (S.told site.new) (S.book site.new)) result }
-    ensures later { S.faults site.old ≤ S.faults site.new }
-    ensures cause { IfErr result (λ fault. fault ≡ SetUpFault.Site → Rose (S.faults site.old) (S.faults site.new)) }
-{
-    let mut journal = open_vacant(alloc, site)?;
-    let payload = setup_payload(alloc, setup)?;
-    journal.reserve(1, payload.bytes().len())?;
-    establish(site, &mut journal, payload.bytes(), kind, genesis)?;
-    Ok(())
 }

@@ -1,5 +1,5 @@
-use Rattle.std.proofs.Common.{ap, arith, length, refl}
-use Rattle.satp_gateway.proofs.set_up.open_vacant.Goals as goal
+use Rattle.std.proofs.Common.{◌∙◌, ap, arith, length, refl, sym}
+use Rattle.satp_gateway.proofs.vacancy.Vacancy.open.Goals as goal
 
 pub returns-in-Ok-2-clause-answers : goal.returns-in-Ok-2-clause-answers
 returns-in-Ok-2-clause-answers g c =

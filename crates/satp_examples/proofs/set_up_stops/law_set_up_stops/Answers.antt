@@ -1,16 +1,16 @@
-use Rattle.std.proofs.Common.{◌≡◌, ◌≢◌, ◌≤◌, ℕ, Bool, true, false, List, [], ◌∷◌, ◌++◌, Some, None, take, Ok, Err, refl, sym, ap, ◌∙◌, subst, inl, inr, arith, lit≤, rules}
+use Rattle.std.proofs.Common.{◌≡◌, ◌≢◌, ◌≤◌, ℕ, Bool, true, false, List, [], ◌∷◌, ◌++◌, Some, None, take, Ok, Err, refl, sym, ap, ◌∙◌, subst, inl, inr, arith, lit<, lit≤, rules}
 use Rattle.std.specs.List.{flat_map, list_any}
 use Rattle.std.specs.Prelude.{slice_index}
 use Rattle.satp_base.specs.Acts.{founded}
-use Rattle.satp_base.specs.Calls.{Told}
-use Rattle.satp_base.specs.Format.{IsPayload, Stands}
+use Rattle.satp_base.specs.Calls.{Told, made}
+use Rattle.satp_base.specs.Format.{Damage, EndsAt, IsMendable, IsPayload, Stands, records}
 use Rattle.satp_base.specs.Segments.{append_events}
 use Rattle.satp_base.specs.Trail.{IsImage, KeepsModel, Trail, extended}
 use Rattle.satp_base.specs.declared.area.Area.TheVariants.{JournalA}
 use Rattle.satp_base.specs.declared.area.Event.{Event}
 use Rattle.satp_base.specs.declared.area.Event.TheVariants.{Acted, Cut, Founded, Left, Synced, Wrote}
 use Rattle.satp_base.proofs.Closing.{either_stands}
-use Rattle.satp_base.proofs.Readings.{one_list}
+use Rattle.satp_base.proofs.Readings.{never_both, one_end, one_list, record_not_there}
 use Rattle.satp_gateway.specs.SettingUp.{SetUpAnswers, UnlessFailed, tells}
 use Rattle.satp_gateway.specs.SetUpStops.{HasFounded, IsInSetUp}
 use Rattle.satp_gateway.specs.declared.fault.SetUpFault.TheVariants.{Already}
@@ -21,7 +21,7 @@ use Rattle.satp_examples.specs.Journals.{abc, abc_then, d}
 use Rattle.satp_examples.specs.Ledgers.{with_gold}
 use Rattle.satp_examples.specs.Segments.{synced}
 use Rattle.satp_examples.specs.SetUps.{empty, opened, plan, set_up, there}
-use Rattle.satp_examples.specs.SetUpStops.{SetsUpBy, opens, stores}
+use Rattle.satp_examples.specs.SetUpStops.{SetsUpBy, opens, set_up_there, stores, unmendable}
 use Rattle.satp_examples.proofs.Images.{is_whole}
 use Rattle.satp_examples.proofs.set_up_stops.law_set_up_stops.Goals as goal
 
@@ -48,6 +48,31 @@ at_event : (old : Told) (events : List Event) → old.trail.events ≡ [] → Se
 at_event old events none (all, is, at) n image left =
     let same : events ≡ all = subst (λ es. es ++ events ≡ es ++ all) none (ap (λ (t : Trail). t.events) is) in
     subst (λ es. IsInSetUp plan old.trail (take n es) image) (sym same) (at n image (subst (λ es. IsImage (extended old.trail (take n es)) JournalA image) same left))
+
+-- ---- over a gate that can't be mended
+
+done_there : SetUpAnswers plan (tells (Some (uncalled unmendable)) None) (tells (Some set_up_there) (Some (founded with_gold))) (Ok tt)
+done_there = (Some (made 5 opens (uncalled unmendable)), (journal_of [], refl, (unmendable, (refl, search rules, refl, refl), refl)), (refl, (refl, refl)))
+
+keeps_there_too : (t : Told) → Some set_up_there ≡ Some t → KeepsModel t.trail
+keeps_there_too t e = subst (λ (x : Told). KeepsModel x.trail) (same_told set_up_there t e) (λ area. (tt, (tt, (tt, (tt, (tt, (tt, (tt, (tt, tt)))))))))
+
+seven_ends : EndsAt [] 7 (0 ∷ 9 ∷ []) unmendable
+seven_ends = record { valid = tt; bytes = refl }
+
+opened_is_damaged : Damage (1 ∷ 0 ∷ 9 ∷ []) 0
+opened_is_damaged = ([], (lit< tt, (0 ∷ 9 ∷ [], record { valid = tt; bytes = refl }, record_not_there 0 9 [] (inr (inr (inr (lit≤ tt)))))), refl)
+
+seven : ◌≢◌ {A = ℕ} 7 1
+seven = search rules
+
+cannot : ¬ IsMendable unmendable
+cannot (inl short) = let bad : 3 ≤ 1 = short in absurd (omega (arith, bad))
+cannot (inr (inl (payloads, (behind, ends)))) =
+    let same = one_end [] payloads 7 0 (0 ∷ 9 ∷ []) behind unmendable seven_ends ends (inl seven) (inl (λ e. cc)) in let bad : 7 ≡ 0 = same.gate in absurd (omega (arith, bad))
+cannot (inr (inr (longer, (list, gate, behind, shuts, ends, stands)))) =
+    let same = one_end [] list 7 gate (0 ∷ 9 ∷ []) behind unmendable seven_ends ends (inl seven) (inl shuts) in
+    never_both (1 ∷ 0 ∷ 9 ∷ []) longer 0 (subst (λ p. Stands (records p ++ 1 ∷ 0 ∷ 9 ∷ []) longer) (sym same.payloads) (subst (λ x. Stands (records list ++ 1 ∷ x) longer) (sym same.behind) stands)) opened_is_damaged
 
 -- ---- no founding is there
 
@@ -111,6 +136,8 @@ not_done (inr (inr e)) = absurd cc
 pub returns : goal.returns
 returns c = record {
   whole = stops plan (search rules) (Some empty) (Some set_up) None (Some (founded with_gold)) (Ok tt) keeps_set_up done;
+  over_what_cannot_be_mended = stops plan (search rules) (Some (uncalled unmendable)) (Some set_up_there) None (Some (founded with_gold)) (Ok tt) keeps_there_too done_there;
+  it_cannot = cannot;
   over_a_record = stops plan (search rules) (Some (uncalled closed)) (Some there) None None (Err Already) keeps_there already;
   not_stored_before_the_founding = too_early;
   not_another_record = other_record;

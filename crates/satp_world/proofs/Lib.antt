@@ -32,3 +32,5 @@ pub mod Limits
 pub mod SenderLaw
 pub mod RoomLaw
 pub mod WorldLaw
+pub mod DueMoves
+pub mod WorkLaw

@@ -34,3 +34,6 @@ pub mod RoomLaw
 pub mod WorldLaw
 pub mod DueMoves
 pub mod WorkLaw
+pub mod RestTable
+pub mod RestCheck
+pub mod Replies

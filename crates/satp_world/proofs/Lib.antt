@@ -37,3 +37,4 @@ pub mod WorkLaw
 pub mod RestTable
 pub mod RestCheck
 pub mod Replies
+pub mod RunLaw

@@ -33,13 +33,13 @@ use Rattle.satp_world.proofs.WorldLaw.{law_safety}
 -- ---- one side of a reached world
 
 -- this gateway keeps this, and this is the bag
-record IsSideOf (st : Setting) (a b : Founding) (g : Gateway) (side : Side) (bag : List Text) : Type 0 where
-  world : World
-  reached : Reached st a b world
-  keeps : side_at world g ≡ side
-  holds : world.bag ≡ bag
+pub record IsSideOf (st : Setting) (a b : Founding) (g : Gateway) (side : Side) (bag : List Text) : Type 0 where
+  pub world : World
+  pub reached : Reached st a b world
+  pub keeps : side_at world g ≡ side
+  pub holds : world.bag ≡ bag
 
-moved-on : (st : Setting) (a b : Founding) (g : Gateway) (side : Side) (bag : List Text) (new : Side) (more : List Text) → IsSideOf st a b g side bag → SideMoves (party_at st g) side bag new more → IsSideOf st a b g new more
+pub moved-on : (st : Setting) (a b : Founding) (g : Gateway) (side : Side) (bag : List Text) (new : Side) (more : List Text) → IsSideOf st a b g side bag → SideMoves (party_at st g) side bag new more → IsSideOf st a b g new more
 moved-on st a b A side bag new more k m = record {
   world = with_side k.world A new more;
   reached = Goes k.world _ k.reached (By A new more (subst (λ x. SideMoves (party_at st A) x k.world.bag new more) (sym k.keeps) (subst (λ x. SideMoves (party_at st A) side x new more) (sym k.holds) m)));
@@ -55,14 +55,14 @@ moved-on st a b B side bag new more k m = record {
 
 -- ---- what is due is answered
 
-origin-side : (v : View) (o w : Option View) (e f : Entry) → o ≡ Some v → StandsAt o w e f → (v.role ≡ Origin) × OriginStands (half v e)
+pub origin-side : (v : View) (o w : Option View) (e f : Entry) → o ≡ Some v → StandsAt o w e f → (v.role ≡ Origin) × OriginStands (half v e)
 origin-side v o w e f q k = by w (subst (λ x. StandsAt x w e f) q k)
   where
     by : (w : Option View) → StandsAt (Some v) w e f → (v.role ≡ Origin) × OriginStands (half v e)
     by None k = (k.2, k.0)
     by (Some u) k = (k.roles.0, k.origin)
 
-recipient-side : (v : View) (o w : Option View) (e f : Entry) → w ≡ Some v → StandsAt o w e f → (v.role ≡ Recipient) × RecipientStands (half v f)
+pub recipient-side : (v : View) (o w : Option View) (e f : Entry) → w ≡ Some v → StandsAt o w e f → (v.role ≡ Recipient) × RecipientStands (half v f)
 recipient-side v o w e f q k = by o (subst (λ x. StandsAt o x e f) q k)
   where
     by : (o : Option View) → StandsAt o (Some v) e f → (v.role ≡ Recipient) × RecipientStands (half v f)
@@ -117,11 +117,11 @@ module _ (st : Setting) (a b : Founding) (g : Gateway) (s : SessionId) where
     next-ordered side bag l Wait k at due = refl
     next-ordered side bag l Ended k at due = refl
 
-  ordered : (n : ℕ) → Ordered n
+  pub ordered : (n : ℕ) → Ordered n
   ordered zero side bag l k at = refl
   ordered (suc n) side bag l k at = next-ordered n (ordered n) side bag l (next_of l.view.role l.view) k at refl
 
-slot-parts : (o : Option View) (texts : List Text) (l : Slot) → option_map (λ v. slot v texts) o ≡ Some l → (o ≡ Some l.view) × (texts ≡ l.texts)
+pub slot-parts : (o : Option View) (texts : List Text) (l : Slot) → option_map (λ v. slot v texts) o ≡ Some l → (o ≡ Some l.view) × (texts ≡ l.texts)
 slot-parts None texts l e = absurd (cc e)
 slot-parts (Some v) texts l e = let same : slot v texts ≡ l = cc e in (ap (λ (x : Slot). Some x.view) same, ap (λ (x : Slot). x.texts) same)
 

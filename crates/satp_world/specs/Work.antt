@@ -1,7 +1,8 @@
 -- Due work in a reached world.
-use Rattle.std.specs.Prelude.{◌≡◌, true, List, Some}
+use Rattle.std.specs.Prelude.{◌≡◌, true, List, Some, None}
 use Rattle.satp_base.specs.Founding.{Founding}
 use Rattle.satp_base.specs.declared.session.SessionId.{SessionId}
+use Rattle.satp_sides.specs.Calls.{Call, IsOfOwn, IsOperators, Run, run_of}
 use Rattle.satp_sides.specs.Due.{due}
 use Rattle.satp_sides.specs.Moves.{AreMoves}
 use Rattle.satp_sides.specs.Points.{Party, Side, Slot, Text, moved_by, slot_in}
@@ -18,3 +19,14 @@ abbrev pub WorkMoves : Type 0
 WorkMoves =
     (st : Setting) (a b : Founding) (w : World) → Reached st a b w → (g : Gateway) (s : SessionId) (l : Slot)
     → slot_in s (side_at w g).records ≡ Some l → WorkIsDone (party_at st g) s (side_at w g) w.bag l
+
+-- The moves of a run may be made, and it has an answer: no operation is out of order.
+pub record RunGoes (p : Party) (side : Side) (bag : List Text) (run : Run) : Type 0 where
+  pub moves : AreMoves p side bag run.moves
+  pub answered : (run.answer ≡ None) → ⊥
+
+-- whatever its operator asks of a gateway
+abbrev pub OperatorsRunsMove : Type 0
+OperatorsRunsMove =
+    (st : Setting) (a b : Founding) (w : World) → Reached st a b w → (g : Gateway) (call : Call) → IsOperators call → IsOfOwn (party_at st g) call
+    → RunGoes (party_at st g) (side_at w g) w.bag (run_of (party_at st g) (side_at w g) call)

@@ -1,8 +1,10 @@
 -- Bytes that are read piece by piece.
-use Rattle.std.proofs.Common.{◌≡◌, ℕ, zero, suc, ◌+◌, ◌<◌, ◌≤◌, List, [], ◌∷◌, ◌++◌, length, take, drop, Option, Some, None, refl, ap, subst, sym, ◌∙◌, arith, append_assoc, append-nil, length-append, length-take}
-use Rattle.std.specs.Prelude.{IfSome}
+use Rattle.std.proofs.Common.{◌≡◌, ℕ, zero, suc, ◌+◌, ◌<◌, ◌≤◌, List, [], ◌∷◌, ◌++◌, length, take, drop, Option, Some, None, refl, ap, subst, sym, ◌∙◌, arith, append_assoc, append-nil, length-append, length-take, Ok}
+use Rattle.std.specs.Prelude.{◌==◌, false, IfSome}
+use Rattle.std.proofs.lemmas.Bool.{ne_eqb}
 use Rattle.std.proofs.lemmas.List.{take-append-drop}
-use Rattle.satp_base.specs.Streams.{TakesFront}
+use Rattle.satp_base.specs.Streams.{TakesFront, is_last}
+use Rattle.satp_base.specs.declared.stream.SourceFault.{SourceFault}
 use Rattle.satp_app.specs.Outside.{ReadWithin, SourceState}
 
 -- the bytes are those held, and those that the source has left
@@ -37,3 +39,7 @@ read_within most b a now held into n h t within =
   where
     taken_within : (k : ℕ) (xs : List ℕ) → length (take k xs) ≤ k
     taken_within k xs = omega (arith, length-take k xs)
+
+-- a read of some bytes is not the last
+pub not_last : (room n : ℕ) → 0 < n → is_last {E = SourceFault} room (Ok n) ≡ false
+not_last room n some = let not_none : (n == 0) ≡ false = ne_eqb _ _ (λ e. omega (arith, some, e)) in rw not_none refl

@@ -2,3 +2,4 @@ pub mod Establishing
 pub mod Growing
 pub mod Deciding
 pub mod Stopping
+pub mod Founding

@@ -2,4 +2,3 @@ pub mod Establishing
 pub mod Growing
 pub mod Deciding
 pub mod Stopping
-pub mod Founding

@@ -4,4 +4,4 @@ pub mod Ends
 pub mod Inputs
 pub mod Lines
 pub mod Genesis
-pub mod Vacant
+pub mod SetUpEnds

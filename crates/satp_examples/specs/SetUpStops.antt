@@ -1,13 +1,12 @@
 -- What a stop leaves of a set-up whose record is `d`, at each of its events.
-use Rattle.std.specs.Prelude.{ℕ, List, [], ◌∷◌, ◌++◌, Some, Ok, Err}
+use Rattle.std.specs.Prelude.{List, [], ◌∷◌, ◌++◌, Some, Ok, Err}
 use Rattle.satp_base.specs.Calls.{Told, made}
-use Rattle.satp_base.specs.Format.{IsMendable}
 use Rattle.satp_base.specs.Segments.{append_events}
 use Rattle.satp_base.specs.declared.area.Area.TheVariants.{JournalA}
 use Rattle.satp_base.specs.declared.area.Event.{Event}
 use Rattle.satp_base.specs.declared.area.Event.TheVariants.{Founded, Wrote}
-use Rattle.satp_gateway.specs.SetUpStops.{SetUpStops}
-use Rattle.satp_gateway.specs.SettingUp.{RestsSetUp, SetUpDecided, founds}
+use Rattle.satp_gateway.specs.SetUpStops.{SetUpStops, VacantRests, VacantStops}
+use Rattle.satp_gateway.specs.SettingUp.{RestsSetUp, SetUpDecided}
 use Rattle.satp_gateway.specs.declared.fault.SetUpFault.TheVariants.{Already}
 use Rattle.satp_examples.specs.Appending.{closed, uncalled}
 use Rattle.satp_examples.specs.Journals.{abc, d}
@@ -25,23 +24,17 @@ stores = append_events JournalA 0 d
 abbrev pub SetsUpBy : Told → List Event → Type 0
 SetsUpBy old events = SetUpStops plan (Some old) (Some (made 9 events old))
 
--- an area whose closed gate is 7, and with 1 in its place is damaged
-abbrev pub unmendable : List ℕ
-unmendable = 7 ∷ 0 ∷ 9 ∷ []
-
--- it is opened, the ledger is founded, and the record is stored
-abbrev pub set_up_there : Told
-set_up_there = made 4 stores (founds plan (made 5 opens (uncalled unmendable)))
-
 pub record StopsOfASetUp : Type 0 where
   pub whole : SetUpStops plan (Some empty) (Some set_up)
-  -- from the founding on the image is known, whatever gate was read
-  pub over_what_cannot_be_mended : SetUpStops plan (Some (uncalled unmendable)) (Some set_up_there)
-  pub it_cannot : ¬ IsMendable unmendable
   pub over_a_record : SetUpStops plan (Some (uncalled closed)) (Some there)
   pub not_stored_before_the_founding : ¬ SetsUpBy empty (opens ++ stores ++ Founded ∷ [])
   pub not_another_record : ¬ SetsUpBy empty (opens ++ Founded ∷ append_events JournalA 0 (101 ∷ []))
   pub not_behind_another_record : ¬ SetsUpBy (uncalled closed) (synced ∷ Founded ∷ append_events JournalA 6 d)
+  -- over the open journal
+  pub over_a_vacancy : VacantStops plan (Some opened) (Some set_up)
+  pub not_stored_over_a_vacancy_before_the_founding : ¬ VacantStops plan (Some opened) (Some (made 5 (stores ++ Founded ∷ []) opened))
+  pub rests_over_a_vacancy : VacantRests plan (Some opened) (Some set_up)
+  pub not_at_rest_unfounded : ¬ VacantRests plan (Some opened) (Some opened)
   pub rests : RestsSetUp plan (Some set_up)
   pub not_without_the_record : ¬ RestsSetUp plan (Some opened)
   pub not_with_a_record_more : ¬ RestsSetUp plan (Some (made 4 (append_events JournalA 4 abc) set_up))

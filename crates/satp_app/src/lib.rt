@@ -5,6 +5,7 @@
 #![tactic(auto)]
 
 mod answer_command;
+mod arguments;
 mod check_command;
 mod init_command;
 mod outcome;
@@ -15,6 +16,7 @@ mod streams;
 mod tests;
 mod top;
 
+pub use arguments::run_arguments;
 pub use outcome::{Outcome, Refusal};
 pub use reply::Reply;
 pub use top::run;

@@ -7,7 +7,7 @@ use Rattle.satp_base.specs.declared.area.Area.TheVariants.{JournalA}
 use Rattle.satp_base.proofs.Closing.{append_leaves}
 use Rattle.satp_base.proofs.Readings.{record_not_there}
 use Rattle.satp_base.proofs.Standings.{only_settled}
-use Rattle.satp_journal.proofs.AppendLemmas.{keeps_front}
+use Rattle.satp_base.proofs.Trails.{keeps_front}
 use Rattle.satp_examples.specs.Appending.{append, at_rest, closed, damaged}
 use Rattle.satp_examples.specs.Journals.{abc, abc_then, d}
 
@@ -20,7 +20,7 @@ breaks = (lit< tt, ([], record { valid = search rules; bytes = refl }, nothing_t
 pub is_damaged : Damage damaged 6
 is_damaged = (abc ∷ [], breaks, refl)
 
--- no gate stands behind the payload
+-- no gate stands after the payload
 pub no_gate : Damage (abc_then []) 0
 no_gate = ([], (search rules, (_, record { valid = tt; bytes = refl }, record_not_there 0 3 abc (inr (inr (inr (lit≤ tt)))))), refl)
 
@@ -32,7 +32,7 @@ both = search rules
 
 -- ---- within an append of `d`
 
-rests_here : IsAtRest (abc ∷ []) closed
+pub rests_here : IsAtRest (abc ∷ []) closed
 rests_here = ([], record { valid = search rules; bytes = refl })
 
 pub at_start : RestsAt at_rest.trail JournalA (abc ∷ [])

@@ -20,7 +20,7 @@ abbrev pub append : List Event
 append = append_events JournalA 6 d
 
 abbrev pub CutOfAppend : List Event → Type 0
-CutOfAppend events = IsCut JournalA append events
+CutOfAppend events = IsCut append events
 
 pub record EventsOfAnAppend : Type 0 where
   pub four : append ≡ frame ∷ synced ∷ gate ∷ synced ∷ []
@@ -30,7 +30,7 @@ pub record EventsOfAnAppend : Type 0 where
   pub a_failed_sync : CutOfAppend (frame ∷ synced ∷ Left JournalA (abc_then (0 ∷ 7 ∷ [])) ∷ [])
   pub not_left_before_a_call : ¬ CutOfAppend (Left JournalA (abc_then (0 ∷ [])) ∷ [])
   pub not_left_elsewhere : ¬ CutOfAppend (frame ∷ Left JournalB [] ∷ [])
-  pub not_on_behind_a_failure : ¬ CutOfAppend (frame ∷ Left JournalA [] ∷ synced ∷ [])
+  pub not_on_after_a_failure : ¬ CutOfAppend (frame ∷ Left JournalA [] ∷ synced ∷ [])
   pub not_without_the_sync : ¬ CutOfAppend (frame ∷ gate ∷ [])
   pub not_the_gate_first : ¬ CutOfAppend (gate ∷ [])
 

@@ -1,11 +1,12 @@
 // What a device tells of its calls.
-ghost use Rattle.satp_examples.specs.Calls.{CallsAreTold, FailedCalls, FailedAppends, ReadBytes, MissedCalls};
+ghost use Rattle.satp_examples.specs.Calls.{CallsAreTold, FailedCalls, FailedAppends, ListedCalls, ReadBytes, MissedCalls};
 
-/// What is told behind calls that succeeded, calls that failed, and reads.
+/// What is told after calls that succeeded, calls that failed, and reads.
 pub fn law_calls()
     ensures told { CallsAreTold }
     ensures failed { FailedCalls }
     ensures among { FailedAppends }
+    ensures listed { ListedCalls }
     ensures reads { ReadBytes }
     ensures missed { MissedCalls }
 {}

@@ -1,7 +1,7 @@
 -- What a set-up answers, and what it leaves.
-use Rattle.std.specs.Prelude.{◌≡◌, ◌≢◌, ◌⊎◌, ℕ, ◌+◌, List, [], ◌∷◌, ◌++◌, length, Option, Some, None, IfSome, OnSome, option_map, Result, Ok, Err}
-use Rattle.satp_base.specs.Acts.{Asks, FoundEvents, FoundsBook, founded}
-use Rattle.satp_base.specs.Calls.{Told, asked, made, FailsAmong}
+use Rattle.std.specs.Prelude.{◌≡◌, ◌≢◌, ◌⊎◌, ℕ, List, [], ◌∷◌, ◌++◌, Option, None, IfSome, option_map, Result, Ok, Err}
+use Rattle.satp_base.specs.Acts.{Asks, FoundEvents, FoundsBook}
+use Rattle.satp_base.specs.Calls.{Ask, Told, FailsAmong, Makes, asked, calls_of}
 use Rattle.satp_base.specs.Format.{Damage, Stands}
 use Rattle.satp_base.specs.Founding.{Founding}
 use Rattle.satp_base.specs.Laws.{RestsAt}
@@ -84,15 +84,18 @@ TellsGenesis p new = FoundsBook p.genesis done new.told new.book
 abbrev pub setup_events : Plan → List Event
 setup_events p = append_events JournalA 0 p.payload
 
--- over an open journal without a record: the ledger was founded, and behind it the record was stored
+abbrev pub setup_calls : Plan → List (Option Event)
+setup_calls p = calls_of (setup_events p)
+
+-- over an open journal without a record: the ledger was founded, and after it the record was stored
 abbrev pub Establishes : Plan → Option Told → Tells → Type 0
-Establishes p old new = (new.told ≡ option_map (made 4 (setup_events p)) (option_map (founds p) old)) × TellsGenesis p new
+Establishes p old new = Makes (setup_calls p) (option_map (founds p) old) new.told × TellsGenesis p new
 
 -- The founding failed, and nothing is told of the ledger; or the ledger was founded, and a call of the append failed.
 abbrev pub FailsToEstablish : Plan → Option Told → Tells → Type 0
 FailsToEstablish p old new =
     (FailsToFound p old new.told × (new.book ≡ None))
-    ⊎ (FailsAmong JournalA (setup_events p) (option_map (founds p) old) new.told × TellsGenesis p new)
+    ⊎ (FailsAmong (setup_calls p) (option_map (founds p) old) new.told × TellsGenesis p new)
 
 -- ---- all of it
 
@@ -121,7 +124,7 @@ SetUpDecided old result = IfSome old (λ t. DecidedBy (seen t.trail JournalA) re
 -- Of the calls on a ledger at most one is made: a founding by this plan, and none where the journal has a record.
 abbrev pub FoundsOnce : Plan → Option Told → Option Told → Type 0
 FoundsOnce p old new =
-    IfSome old (λ t. IfSome new (λ u. (u.asks ≡ t.asks) ⊎ (Stands (seen t.trail JournalA) [] × (u.asks ≡ t.asks ++ Found p.kind p.genesis ∷ []))))
+    IfSome old (λ t. IfSome new (λ u. (u.asks ≡ t.asks) ⊎ (Stands (seen t.trail JournalA) [] × ((ask : Ask) × (ask.call ≡ Found p.kind p.genesis) × (u.asks ≡ t.asks ++ ask ∷ [])))))
 
 -- each image of the journal's area is the record of the set-up alone, at rest
 abbrev pub RestsSetUp : Plan → Option Told → Type 0

@@ -1,12 +1,12 @@
 -- What the steps of a set-up leave.
-use Rattle.std.specs.Prelude.{◌≡◌, ◌≢◌, List, [], ℕ, false, Result, Ok, Err}
+use Rattle.std.specs.Prelude.{◌≡◌, [], false, Result, Ok, Err}
 use Rattle.satp_base.specs.declared.area.Area.TheVariants.{JournalA}
 use Rattle.satp_journal.specs.State.{Held, JournalState}
 use Rattle.satp_journal.specs.declared.fault.JournalFault.{JournalFault}
 use Rattle.satp_journal.specs.declared.fault.JournalFault.TheVariants as journal
 use Rattle.satp_gateway.specs.SettingUp.{NotVacant, Opens, Tells}
 use Rattle.satp_gateway.specs.declared.fault.SetUpFault.{SetUpFault}
-use Rattle.satp_gateway.specs.declared.fault.SetUpFault.TheVariants.{Already, Damaged, Site, Memory}
+use Rattle.satp_gateway.specs.declared.fault.SetUpFault.TheVariants.{Damaged, Site, Memory}
 
 -- an open journal without a record
 abbrev pub vacant : Held

@@ -19,8 +19,8 @@ impl Gateway {
     ///
     /// `Already` comes exactly where the journal has a record, and `Damaged` exactly where its bytes stand for no list; both leave the ledger alone.
     /// `Site` comes only where the site's count of faults rose. `Memory` comes before the ledger is founded, and leaves it alone.
-    /// Where the journal had no record and the gate behind its list was 0 or not there, after a stop or after `Site` it has no record or that one alone, and
-    /// the record only where the ledger was founded. Another closed gate may read as 1 after a stop in its mend, as in every opening of a journal.
+    /// After a stop or after `Site` the journal is as a stopped opening leaves it, or, once the ledger was founded, has no record or that one alone.
+    /// A set-up that follows finds one of them.
     pub fn set_up<S: Site>(
         alloc: Global,
         site: &mut S,

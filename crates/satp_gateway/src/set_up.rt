@@ -1,7 +1,7 @@
 //! The steps of a set-up. All memory is taken before the ledger is founded.
 
-ghost use Rattle.std.specs.Prelude.{◌≡◌, ◌≤◌, length, option_map, IfOk, IfErr, OnOk, OnErr};
-ghost use Rattle.satp_base.specs.Calls.{FailsAmong, made};
+ghost use Rattle.std.specs.Prelude.{◌≡◌, ◌≤◌, length, IfOk, IfErr, OnOk, OnErr};
+ghost use Rattle.satp_base.specs.Calls.{FailsAmong, Makes, calls_of};
 ghost use Rattle.satp_base.specs.Format.{IsPayload};
 ghost use Rattle.satp_base.specs.Segments.{append_events};
 ghost use Rattle.satp_base.specs.Streams.{HasCause, Rose};
@@ -52,8 +52,8 @@ fn store<S: Site>(site: &mut S, journal: &mut Journal, payload: &[u8]) -> Result
     requires records { 1 ≤ journal.old.spare_records }
     requires bytes { length payload.now ≤ journal.old.spare_bytes }
     requires payload { IsPayload payload.now }
-    ensures ok { OnOk result (S.told site.new ≡ option_map (made 4 (append_events JournalA 0 payload.now)) (S.told site.old)) }
-    ensures err { OnErr result (FailsAmong JournalA (append_events JournalA 0 payload.now) (S.told site.old) (S.told site.new)) }
+    ensures ok { OnOk result (Makes (calls_of (append_events JournalA 0 payload.now)) (S.told site.old) (S.told site.new)) }
+    ensures err { OnErr result (FailsAmong (calls_of (append_events JournalA 0 payload.now)) (S.told site.old) (S.told site.new)) }
     ensures ledger { S.book site.new ≡ S.book site.old }
     ensures cause { HasCause (S.faults site.old) (S.faults site.new) result }
 {

@@ -18,10 +18,10 @@ use Rattle.satp_base.proofs.Readings.{one_list}
 use Rattle.satp_base.proofs.Reopens.{reopen_leaves, reopen_reads}
 use Rattle.satp_base.proofs.Standings.{reads_along, here_settled}
 use Rattle.satp_base.proofs.Trails.{keeps_before, keeps_front}
-use Rattle.satp_journal.specs.State.{Held, Fits, gate_of}
+use Rattle.satp_journal.specs.State.{Held, Fits, JournalState, gate_of}
 use Rattle.satp_journal.specs.Scanned.{IsScanned}
 use Rattle.satp_journal.specs.declared.scan.Scanned.{Scanned}
-use Rattle.satp_journal.specs.Opening.{IsRead, IsInOpening, Finds, FailsToMend, ReadFails, OpenStops, Rests, mend_calls, open_calls, read_calls}
+use Rattle.satp_journal.specs.Opening.{IsRead, IsInOpening, Finds, FailsToMend, OpenAnswers, ReadFails, OpenStops, Rests, mend_calls, open_calls, read_calls}
 use Rattle.satp_journal.specs.declared.fault.JournalFault.{JournalFault}
 use Rattle.satp_journal.specs.declared.fault.JournalFault.TheVariants.{Disk, Damaged, Memory, Broken}
 use Rattle.satp_journal.proofs.AppendLemmas.{Keeps, made_trail, trail_is}
@@ -120,6 +120,14 @@ module _ (area : Area) where
   mend_fails_stops old new keeps (image, held, finds, fails) =
       let r = among_cut (open_calls area image (gate_of held)) old new fails in
       open_stops old new keeps (r.0, r.2, found_opens held image old r.0 finds (subst (λ (l : List Event). IsCut l r.0) (opened_events area image (gate_of held)) r.1))
+
+  -- whatever an opening answers
+  pub answers_stop : (old new : Option Told) (result : Result JournalState JournalFault) → Keeps new → OpenAnswers area old new result → OpenStops area old new
+  answers_stop old new (Ok journal) keeps (image, finds, is) = mended_stops journal.held image old new keeps finds is
+  answers_stop old new (Err Disk) keeps fails = ⊎_elim (unread_stops old new keeps) (mend_fails_stops old new keeps) fails
+  answers_stop old new (Err (Damaged at)) keeps (image, read, damage, is) = read_stops old new keeps is
+  answers_stop old new (Err Memory) keeps is = ⊎_elim (looked_stops old new keeps) (read_stops old new keeps) is
+  answers_stop old new (Err Broken) keeps answers = absurd answers
 
   pub open_rests : (held : Held) (image : List ℕ) (old new : Option Told) → Finds area old held image → Makes (open_calls area image (gate_of held)) old new → Rests new held
   open_rests held image None None finds is = tt

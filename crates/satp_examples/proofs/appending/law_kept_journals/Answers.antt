@@ -1,18 +1,19 @@
-use Rattle.std.specs.List.{flat_map}
-use Rattle.std.proofs.Common.{◌≡◌, ◌≢◌, ◌++◌, ◌<◌, ◌+◌, ℕ, zero, suc, List, [], ◌∷◌, Option, Some, option_map, Ok, Err, ◌⊎◌, length, refl, sym, ap, subst, inl, inr, arith, lit<, rules}
+use Rattle.std.specs.List.{AllByRecursion, flat_map}
+use Rattle.std.proofs.Common.{◌≡◌, ◌<◌, ℕ, List, [], ◌∷◌, Option, Some, None, option_map, Ok, Err, ◌⊎◌, length, refl, sym, ap, subst, inl, inr, arith, lit<, rules}
 use Rattle.std.specs.Option.{option_map_or}
 use Rattle.std.specs.Prelude.{slice_index}
-use Rattle.satp_base.specs.Calls.{FailsAmong, Told, made}
-use Rattle.satp_base.specs.Format.{Damage, EndsAt, IsAtRest, Stands, records}
-use Rattle.satp_base.specs.Segments.{open_events}
+use Rattle.satp_base.specs.Calls.{FailsAmong, FailsAt, Told, calls_of, events_in, made, risen}
+use Rattle.satp_base.specs.Format.{Damage, IsAtRest, IsPayload, Stands}
+use Rattle.satp_base.specs.Laws.{GateDecides, IsInAppend}
 use Rattle.satp_base.specs.Trail.{IsImage, seen}
 use Rattle.satp_base.specs.declared.area.Area.TheVariants.{JournalA}
+use Rattle.satp_base.specs.declared.area.Event.{Event}
 use Rattle.satp_base.specs.declared.area.Event.TheVariants.{Wrote}
-use Rattle.satp_base.specs.Laws.{IsInAppend}
-use Rattle.satp_base.proofs.Readings.{one_end, never_both, one_damage, one_list}
+use Rattle.satp_base.proofs.Closing.{either_stands, gate_decides}
+use Rattle.satp_base.proofs.Readings.{never_both, one_damage, one_list}
 use Rattle.satp_base.proofs.Standings.{only_settled}
 use Rattle.satp_journal.specs.Listing.{IsUnread}
-use Rattle.satp_journal.specs.Opening.{mend_calls}
+use Rattle.satp_journal.specs.Opening.{open_calls}
 use Rattle.satp_journal.specs.State.{Held}
 use Rattle.satp_journal.specs.declared.fault.JournalFault.TheVariants.{Damaged}
 use Rattle.satp_journal.specs.declared.fault.Unread.TheVariants as unread
@@ -30,23 +31,35 @@ unlike x y (inr h) e = omega (arith, h, e)
 
 -- ---- an append
 
-without_call : FailsAmong JournalA append (Some at_rest) (Some at_rest) → ⊥
-without_call (zero, event, is, (added, fails, e)) = unlike 0 1 (inl (lit< tt)) (ap count e)
-without_call (suc zero, event, is, (added, fails, e)) = unlike 0 2 (inl (lit< tt)) (ap count e)
-without_call (suc (suc zero), event, is, (added, fails, e)) = unlike 0 3 (inl (lit< tt)) (ap count e)
-without_call (suc (suc (suc zero)), event, is, (added, fails, e)) = unlike 0 4 (inl (lit< tt)) (ap count e)
-without_call (suc (suc (suc (suc n))), event, is, rest) = absurd cc
+-- a failed call counts, and is told as the last that failed
+counts : (call : Option Event) (mid : Told) (new : Option Told) → FailsAt call (Some mid) new → count new ≡ risen mid.calls 1
+counts None mid new is = ap count is
+counts (Some event) mid new (added, fails, is) = ap count is
+
+abbrev failure : Option Told → Option ℕ
+failure o = option_map_or (λ (t : Told). t.last_failed) o None
+
+marks : (call : Option Event) (mid : Told) (new : Option Told) → FailsAt call (Some mid) new → failure new ≡ Some (risen mid.calls 1)
+marks None mid new is = ap failure is
+marks (Some event) mid new (added, fails, is) = ap failure is
+
+without_call : FailsAmong (calls_of append) (Some at_rest) (Some at_rest) → ⊥
+without_call (n, call, is, fails) = let bad = marks call _ _ fails in absurd cc
+
+as_success : FailsAmong (calls_of append) (Some at_rest) (Some (made 1 [] at_rest)) → ⊥
+as_success (n, call, is, fails) = let bad = marks call _ _ fails in absurd cc
 
 pub returns-clause-appends : goal.returns-clause-appends
 returns-clause-appends c = record {
   done = (refl, refl, refl);
-  failed = (refl, refl, (0, Wrote JournalA 7 (0 ∷ 1 ∷ 100 ∷ 0 ∷ []), refl, ([], inl refl, refl)));
+  failed = (refl, refl, (0, Some (Wrote JournalA 7 (0 ∷ 1 ∷ 100 ∷ 0 ∷ [])), refl, ([], inl refl, refl)));
   no_memory = (refl, refl, refl);
   broken_before = (refl, refl, refl);
   not_done_without_the_last_sync = λ h. unlike 3 4 (inl (lit< tt)) (ap count h.2);
   not_done_and_forgotten = λ h. unlike 1 2 (inl (lit< tt)) (ap (λ (x : Held). length x.payloads) h.1);
   not_done_where_broken = λ new told h. let bad = h.0 in absurd cc;
   not_failed_and_whole = λ h. let bad = ap (λ (x : Held). x.broken) h.1 in absurd cc;
+  not_failed_where_all_succeeded = λ h. as_success h.2;
   not_failed_without_a_call = λ h. without_call h.2;
   not_without_memory_behind_a_call = λ h. unlike 1 0 (inr (lit< tt)) (ap count h.2);
   not_broken_at_once = λ h. let bad = h.0 in absurd cc;
@@ -57,7 +70,7 @@ returns-clause-appends c = record {
 
 -- the calls that are told where these bytes were read
 abbrev calls_with : List ℕ → List ℕ → ℕ
-calls_with image read = count (option_map (made (3 + mend_calls read 6) (open_events JournalA read 6)) (Some (uncalled image)))
+calls_with image read = count (option_map (made (length (open_calls JournalA read 6)) (events_in (open_calls JournalA read 6))) (Some (uncalled image)))
 
 unmended : ¬ Opens of_seven 3 (synced ∷ []) (Ok (opened (abc ∷ [])))
 unmended (read, finds, e) = unlike 3 5 (inl (lit< tt)) (subst (λ x. 3 ≡ calls_with of_seven x) finds.0 (ap count e))
@@ -86,7 +99,7 @@ returns-clause-openings c = record {
   mended = (of_seven, (refl, search rules, refl, refl), refl);
   empty = ([], (refl, search rules, refl, refl), refl);
   found_damaged = (damaged, refl, is_damaged, refl);
-  first_sync_failed = inl (0, synced, refl, ([], inl refl, refl));
+  first_sync_failed = inl (0, Some synced, refl, ([], inl refl, refl));
   not_unmended = unmended;
   not_mended_at_rest = mended;
   not_another_list = another_list;
@@ -132,59 +145,60 @@ returns-clause-rests c = record {
 
 -- ---- within an append
 
-both : Stands (abc_then (1 ∷ 0 ∷ 1 ∷ 100 ∷ 0 ∷ [])) (abc ∷ d ∷ [])
-both = search rules
+whole_list : AllByRecursion IsPayload (abc ∷ [])
+whole_list = search rules
 
-at_rest_ends : EndsAt (abc ∷ []) 0 [] closed
-at_rest_ends = record { valid = search rules; bytes = refl }
+d_fits : IsPayload d
+d_fits = search rules
 
-in_write : (q : List ℕ) → EndsAt (abc ∷ []) 7 (0 ∷ 1 ∷ q ++ 0 ∷ []) (gate_in_the_write q)
-in_write q = record { valid = search rules; bytes = refl }
-
-seven : ◌≢◌ {A = ℕ} 7 1
-seven = search rules
-
--- the gate is 0, so that nothing is to be shown of another
-no_other_gate : (list : List (List ℕ)) (gate : ℕ) (behind : List ℕ) → gate ≢ 0 → gate ≢ 1 → EndsAt list gate behind closed → Stands (records list ++ 1 ∷ behind) (abc ∷ d ∷ [])
-no_other_gate list gate behind other closes ends =
-    let same = one_end (abc ∷ []) list 0 gate [] behind closed at_rest_ends ends (inl (search rules)) (inl closes) in absurd (other (sym same.gate))
-
-opened_write : (list : List (List ℕ)) (gate : ℕ) (behind : List ℕ) → gate ≢ 0 → gate ≢ 1 → EndsAt list gate behind (gate_in_the_write d) → Stands (records list ++ 1 ∷ behind) (abc ∷ d ∷ [])
-opened_write list gate behind other closes ends =
-    let same = one_end (abc ∷ []) list 7 gate (0 ∷ 1 ∷ 100 ∷ 0 ∷ []) behind (gate_in_the_write d) (in_write d) ends (inl seven) (inl closes) in
-    subst (λ p. Stands (records p ++ 1 ∷ behind) (abc ∷ d ∷ [])) same.payloads (subst (λ x. Stands (records (abc ∷ []) ++ 1 ∷ x) (abc ∷ d ∷ [])) same.behind both)
-
-both_end : EndsAt (abc ∷ d ∷ []) 0 [] (abc_then (1 ∷ 0 ∷ 1 ∷ 100 ∷ 0 ∷ []))
-both_end = record { valid = search rules; bytes = refl }
-
-no_gate_behind : (list : List (List ℕ)) (gate : ℕ) (behind : List ℕ) → gate ≢ 0 → gate ≢ 1 → EndsAt list gate behind (abc_then (1 ∷ 0 ∷ 1 ∷ 100 ∷ 0 ∷ [])) → Stands (records list ++ 1 ∷ behind) (abc ∷ d ∷ [])
-no_gate_behind list gate behind other closes ends =
-    let same = one_end (abc ∷ d ∷ []) list 0 gate [] behind _ both_end ends (inl (search rules)) (inl closes) in absurd (other (sym same.gate))
+in_append : (gate : ℕ) → IsInAppend (abc ∷ []) d (abc_then (gate ∷ 0 ∷ 1 ∷ 100 ∷ 0 ∷ []))
+in_append gate = inr (gate, [], record { valid = whole_list; bytes = refl })
 
 no_append : IsInAppend (abc ∷ []) d damaged → ⊥
-no_append w = elim w.list [
+no_append w = elim (either_stands (abc ∷ []) d damaged d_fits w) [
   | inl s ↦ never_both damaged _ 6 s is_damaged
   | inr s ↦ never_both damaged _ 6 s is_damaged
 ]
 
-other_payload : IsInAppend (abc ∷ []) d (gate_in_the_write (101 ∷ [])) → ⊥
-other_payload w =
-    let longer = w.opened (abc ∷ []) 7 _ (search rules) seven (in_write (101 ∷ [])) in
-    let same = one_list _ (abc ∷ d ∷ []) (abc ∷ (101 ∷ []) ∷ []) longer (search rules) in
-    unlike 100 101 (inl (lit< tt)) (ap (λ qs. slice_index (flat_map (λ q. q) qs) 3) same)
-
 no_list : IsInAppend (abc ∷ []) d (0 ∷ 0 ∷ []) → ⊥
-no_list w = elim w.list [
+no_list w = elim (either_stands (abc ∷ []) d (0 ∷ 0 ∷ []) d_fits w) [
   | inl s ↦ let same = one_list (0 ∷ 0 ∷ []) _ [] s (search rules) in absurd cc
   | inr s ↦ let same = one_list (0 ∷ 0 ∷ []) _ [] s (search rules) in absurd cc
 ]
 
+other_payload : IsInAppend (abc ∷ []) d (gate_in_the_write (101 ∷ [])) → ⊥
+other_payload (inl (behind, ends)) = unlike 7 0 (inr (lit< tt)) (ap (λ xs. slice_index xs 6) ends.bytes)
+other_payload (inr (gate, behind, ends)) = unlike 101 100 (inr (lit< tt)) (ap (λ xs. slice_index xs 9) ends.bytes)
+
+another_gate : IsInAppend (abc ∷ []) d of_seven → ⊥
+another_gate (inl (behind, ends)) = unlike 7 0 (inr (lit< tt)) (ap (λ xs. slice_index xs 6) ends.bytes)
+another_gate (inr (gate, behind, ends)) = let bytes = ends.bytes in absurd cc
+
 pub returns-clause-within : goal.returns-clause-within
 returns-clause-within c = record {
-  before = record { list = inl is_whole; mends = inr (inl (abc ∷ [], ([], at_rest_ends))); opened = no_other_gate };
-  in_the_write_of_the_gate = record { list = inl (search rules); mends = inr (inr (abc ∷ d ∷ [], (abc ∷ [], 7, _, seven, in_write d, both))); opened = opened_write };
-  behind = record { list = inr both; mends = inr (inl (abc ∷ d ∷ [], ([], both_end))); opened = no_gate_behind };
+  before = inl rests_here;
+  in_the_write_of_the_gate = in_append 7;
+  after = in_append 1;
   not_damaged = no_append;
   not_before_another_payload = other_payload;
   not_without_the_list = no_list;
+  not_at_another_gate = another_gate;
+}
+
+-- ---- gates
+
+with_other : Stands (abc_then (1 ∷ 0 ∷ 1 ∷ 101 ∷ 0 ∷ [])) (abc ∷ (101 ∷ []) ∷ [])
+with_other = search rules
+
+other_gate : GateDecides (abc ∷ []) d (abc_then (1 ∷ 0 ∷ 1 ∷ 101 ∷ 0 ∷ [])) → ⊥
+other_gate g =
+    let same = one_list _ (abc ∷ d ∷ []) (abc ∷ (101 ∷ []) ∷ []) (g.longer.1 refl) with_other in
+    unlike 100 101 (inl (lit< tt)) (ap (λ qs. slice_index (flat_map (λ q. q) qs) 3) same)
+
+pub returns-clause-gates : goal.returns-clause-gates
+returns-clause-gates c = record {
+  by_zero = gate_decides (abc ∷ []) d _ d_fits (inl rests_here);
+  by_another = gate_decides (abc ∷ []) d _ d_fits (in_append 7);
+  by_one = gate_decides (abc ∷ []) d _ d_fits (in_append 1);
+  not_by_a_gate_before_another_record = other_gate;
 }

@@ -1,26 +1,29 @@
 use Rattle.std.specs.List.{flat_map}
 use Rattle.std.specs.Prelude.{slice_index}
-use Rattle.std.proofs.Common.{◌≡◌, ◌≢◌, ◌<◌, ◌≤◌, ◌⊎◌, ℕ, zero, suc, List, [], ◌∷◌, ◌++◌, take, refl, sym, ap, subst, inl, inr, arith, lit<, rules}
-use Rattle.satp_base.specs.Format.{Damage, EndsAt, IsMendable, Stands, StandsOpened, records}
+use Rattle.std.proofs.Common.{◌≡◌, ◌≢◌, ◌<◌, ◌≤◌, ◌⊎◌, ℕ, zero, suc, List, [], ◌∷◌, ◌++◌, length, take, Some, refl, sym, ap, ◌∙◌, subst, inl, inr, arith, lit<, rules, length-append}
+use Rattle.satp_base.specs.Calls.{Told, made}
+use Rattle.satp_base.specs.Format.{Damage, EndsAt, IsMendable, IsPayload, Stands, StandsOpened, records}
 use Rattle.satp_base.specs.Segments.{IsCut, open_events}
-use Rattle.satp_base.specs.Laws.{IsInAppend, IsInMend}
+use Rattle.satp_base.specs.Laws.{IsEither, IsInAppend, IsInMend}
 use Rattle.satp_base.specs.Trail.{IsImage, KeepsModel, Trail, extended}
 use Rattle.satp_base.specs.declared.area.Area.TheVariants.{JournalA}
 use Rattle.satp_base.specs.declared.area.Event.{Event}
 use Rattle.satp_base.specs.declared.area.Event.TheVariants.{Wrote, Cut, Left}
-use Rattle.satp_base.proofs.Closing.{append_ends}
-use Rattle.satp_base.proofs.Opens.{open_begins, open_leaves}
+use Rattle.satp_base.proofs.Closing.{append_ends, either_stands}
 use Rattle.satp_base.proofs.Readings.{never_both, one_end, one_list}
-use Rattle.satp_base.proofs.Standings.{one_free, only_settled}
-use Rattle.satp_journal.proofs.AppendLemmas.{keeps_front}
+use Rattle.satp_base.proofs.Reopens.{reopen_leaves}
+use Rattle.satp_base.proofs.Standings.{one_free, only_settled, take_nil}
+use Rattle.satp_base.proofs.Trails.{keeps_front}
+use Rattle.satp_journal.proofs.AppendLemmas.{Keeps, append_rests, append_stops}
+use Rattle.satp_journal.proofs.OpenLemmas.{OpensBy as Cuts, in_opening}
 use Rattle.satp_journal.specs.Appending.{AtEach}
 use Rattle.satp_journal.specs.Opening.{IsInOpening}
-use Rattle.satp_examples.specs.Appending.{append, at_rest, closed, damaged, uncalled}
+use Rattle.satp_examples.specs.Appending.{append, at_rest, closed, damaged, held, uncalled, with_both}
 use Rattle.satp_examples.specs.Disks.{behind, one_write, three}
 use Rattle.satp_examples.specs.Journals.{abc, abc_then, d}
-use Rattle.satp_examples.specs.JournalStops.{AppendsBy, HasAnyByte, OpensBy, in_the_write, shut, with_both}
+use Rattle.satp_examples.specs.JournalStops.{AppendsBy, HasAnyByte, OpensBy, StaysInAppend, in_the_write, shut}
 use Rattle.satp_examples.specs.Segments.{frame, gate, synced}
-use Rattle.satp_examples.proofs.Images.{at_start, both, is_damaged, is_whole, no_gate, within}
+use Rattle.satp_examples.proofs.Images.{at_start, both, is_damaged, is_whole, no_gate}
 use Rattle.satp_examples.proofs.Mends.{closed_opens_not}
 use Rattle.satp_examples.proofs.journal_stops.law_journal_stops.Goals as goal
 
@@ -60,29 +63,25 @@ returns-clause-each c = record {
 
 -- ---- an append
 
-within_three : (n : ℕ) (image : List ℕ) → IsImage (extended at_rest.trail (take n (frame ∷ synced ∷ gate ∷ []))) JournalA image → IsInAppend (abc ∷ []) d image
-within_three zero image is = within 0 image is
-within_three (suc zero) image is = within 1 image is
-within_three (suc (suc zero)) image is = within 2 image is
-within_three (suc (suc (suc zero))) image is = within 3 image is
-within_three (suc (suc (suc (suc n)))) image is = within 3 image is
+d_fits : IsPayload d
+d_fits = search rules
 
 no_damage : (image : List ℕ) (at : ℕ) → Damage image at → IsInAppend (abc ∷ []) d image → ⊥
-no_damage image at damage w = elim w.list [
+no_damage image at damage w = elim (either_stands (abc ∷ []) d image d_fits w) [
   | inl s ↦ never_both image _ at s damage
   | inr s ↦ never_both image _ at s damage
 ]
 
 -- what is said at one event, of the events that are there
 at_event : (events : List Event) → AppendsBy events → (n : ℕ) (image : List ℕ) → IsImage (extended at_rest.trail (take n events)) JournalA image → IsInAppend (abc ∷ []) d image
-at_event events h n image is = let all = h at_start in let same : events ≡ all.0 = ap (λ (t : Trail). t.events) all.1 in
+at_event events h n image is = let all = h (abc ∷ []) refl at_start in let same : events ≡ all.0 = ap (λ (t : Trail). t.events) all.1 in
     all.2 n image (subst (λ es. IsImage (extended at_rest.trail (take n es)) JournalA image) same is)
 
 other_both : Stands (abc_then (1 ∷ 0 ∷ 1 ∷ 101 ∷ 0 ∷ [])) (abc ∷ (101 ∷ []) ∷ [])
 other_both = search rules
 
 other_payload : IsInAppend (abc ∷ []) d (abc_then (1 ∷ 0 ∷ 1 ∷ 101 ∷ 0 ∷ [])) → ⊥
-other_payload w = elim w.list [
+other_payload w = elim (either_stands (abc ∷ []) d _ d_fits w) [
   | inl s ↦ let same = one_list _ _ _ s other_both in absurd cc
   | inr s ↦ let same = one_list _ _ _ s other_both in unlike 100 101 (inl (lit< tt)) (ap (λ qs. slice_index (flat_map (λ q. q) qs) 3) same)
 ]
@@ -94,15 +93,33 @@ xbc_stands : Stands xbc ((120 ∷ 98 ∷ 99 ∷ []) ∷ [])
 xbc_stands = search rules
 
 over_payload : IsInAppend (abc ∷ []) d xbc → ⊥
-over_payload w = elim w.list [
+over_payload w = elim (either_stands (abc ∷ []) d _ d_fits w) [
   | inl s ↦ let same = one_list _ _ _ s xbc_stands in unlike 97 120 (inl (lit< tt)) (ap (λ qs. slice_index (flat_map (λ q. q) qs) 0) same)
   | inr s ↦ let same = one_list _ _ _ s xbc_stands in absurd cc
 ]
 
+some_same : (t u : Told) → Some t ≡ Some u → t ≡ u
+some_same t u e = cc
+
+keeps_told : (t : Told) → KeepsModel t.trail → Keeps (Some t)
+keeps_told t keeps u is = subst (λ (x : Told). KeepsModel x.trail) (some_same t u is) keeps
+
+keeps_append : KeepsModel (extended at_rest.trail append)
+keeps_append area = (tt, (tt, (tt, (tt, tt))))
+
+keeps_gate : KeepsModel (extended at_rest.trail (frame ∷ synced ∷ gate ∷ []))
+keeps_gate area = (tt, (tt, (tt, tt)))
+
+whole : AppendsBy append
+whole = append_stops d (held (abc ∷ [])) d_fits (Some at_rest) (Some (made 4 append at_rest)) (keeps_told _ keeps_append) (append, (4, inl refl), refl)
+
+up_to_gate : AppendsBy (frame ∷ synced ∷ gate ∷ [])
+up_to_gate = append_stops d (held (abc ∷ [])) d_fits (Some at_rest) (Some (made 4 (frame ∷ synced ∷ gate ∷ []) at_rest)) (keeps_told _ keeps_gate) (frame ∷ synced ∷ gate ∷ [], (3, inl refl), refl)
+
 pub returns-clause-append : goal.returns-clause-append
 returns-clause-append c = record {
-  whole = λ rests. (append, refl, within);
-  up_to_the_gate = λ rests. (frame ∷ synced ∷ gate ∷ [], refl, within_three);
+  whole = whole;
+  up_to_the_gate = up_to_gate;
   not_without_the_first_sync = λ h. no_damage damaged 6 is_damaged (at_event _ h 2 damaged (search rules));
   not_of_another_payload = λ h. other_payload (at_event _ h 3 _ (search rules));
   not_over_a_payload = λ h. over_payload (at_event _ h 1 xbc (search rules));
@@ -112,6 +129,43 @@ returns-clause-append c = record {
   not_without_the_payload = λ h. unlike 1 0 (inr (lit< tt)) (ap (λ xs. slice_index xs 6) (h at_start with_both (search rules)).1.bytes);
   rests = at_start;
   not_with_a_payload_more = λ h. unlike 0 1 (inl (lit< tt)) (ap (λ xs. slice_index xs 6) (h closed (search rules)).1.bytes);
+}
+
+-- ---- gates and lists
+
+-- a cut of the first two events is no cut that has the third
+no_gate_yet : (events : List Event) → IsCut (take 2 append) events → 2 < length events → (more : List Event) → events ≡ frame ∷ synced ∷ gate ∷ more → ⊥
+no_gate_yet events (zero, inl is) long more e = absurd cc
+no_gate_yet events (zero, inr (area, bytes, of, is)) long more e = absurd cc
+no_gate_yet events (suc zero, inl is) long more e = absurd cc
+no_gate_yet events (suc zero, inr (area, bytes, of, is)) long more e = absurd cc
+no_gate_yet events (suc (suc n), inl is) long more e = let cut = is ∙ ap (λ (l : List Event). frame ∷ synced ∷ l) (take_nil n) in absurd cc
+no_gate_yet events (suc (suc n), inr (area, bytes, of, is)) long more e = let cut = is ∙ ap (λ (l : List Event). frame ∷ synced ∷ l ++ Left area bytes ∷ []) (take_nil n) in absurd cc
+
+not_whole : (front more : List Event) → length front < 4 → front ≡ append ++ more → ⊥
+not_whole front more short e = let same : length front ≡ length (append ++ more) = ap length e in omega (arith, short, same, length-append append more)
+
+pub returns-clause-gates : goal.returns-clause-gates
+returns-clause-gates c = record {
+  closed_before_its_write = record { before = λ cut. refl; after = λ more e. absurd (not_whole (frame ∷ synced ∷ []) more (lit< tt) e) };
+  any_byte_in_its_write = record { before = λ cut. absurd (no_gate_yet _ cut (lit< tt) [] refl); after = λ more e. absurd (not_whole (frame ∷ synced ∷ gate ∷ []) more (lit< tt) e) };
+  open_after_its_sync = record { before = λ cut. absurd (no_gate_yet _ cut (lit< tt) (synced ∷ []) refl); after = λ more e. refl };
+  not_open_before_its_write = λ g. unlike 1 0 (inr (lit< tt)) (g.before (2, inl refl));
+  not_another_byte_after_its_sync = λ g. unlike 7 1 (inr (lit< tt)) (g.after [] refl);
+}
+
+neither : IsEither (abc ∷ []) d (d ∷ []) → ⊥
+neither (inl same) = absurd cc
+neither (inr same) = absurd cc
+
+pub returns-clause-lists : goal.returns-clause-lists
+returns-clause-lists c = record {
+  the_list = append_rests d (held (abc ∷ [])) d_fits (Some at_rest) (Some (made 4 append at_rest)) (keeps_told _ (λ area. tt)) refl;
+  another_as_long = append_rests d (held ((120 ∷ 121 ∷ 122 ∷ []) ∷ [])) d_fits (Some at_rest) (Some (made 4 append at_rest)) (keeps_told _ (λ area. tt)) refl;
+  not_without_the_last_sync = λ h. unlike 7 1 (inr (lit< tt)) (ap (λ xs. slice_index xs 6) (h (abc ∷ []) refl at_start in_the_write (search rules)).1.bytes);
+  shorter = inl refl;
+  longer = inr refl;
+  neither = neither;
 }
 
 -- ---- a mend
@@ -173,16 +227,13 @@ returns-clause-mend c = record {
 abbrev here : List ℕ → Trail
 here image = (uncalled image).trail
 
--- at each front of an opening of an image that stands for `abc`
+-- at each prefix of an opening of an image that stands for `abc`
 opening_at : (read : List ℕ) (whole : List Event) (n : ℕ) → Stands read (abc ∷ []) → open_events JournalA read 6 ≡ whole → KeepsModel (extended (here read) whole)
     → (image : List ℕ) → IsImage (extended (here read) (take n whole)) JournalA image → IsInOpening (here read) JournalA (take n whole) image
-opening_at read whole n list opens all image is = let keeps = keeps_front (here read) whole n all in record {
-  before = λ cut. open_begins (here read) JournalA (take n whole) cut keeps image is;
-  behind = λ rest payloads begins stands mends.
-      subst (λ p. IsInMend read p image) (one_list read (abc ∷ []) payloads list stands)
-      (open_leaves (here read) JournalA (abc ∷ []) rest list mends (subst (λ w. IsCut JournalA w (synced ∷ rest)) (sym opens) (subst (IsCut JournalA whole) begins (n, inl refl)))
-      (subst (λ es. KeepsModel (extended (here read) es)) begins keeps) image (subst (λ es. IsImage (extended (here read) es) JournalA image) begins is));
-}
+opening_at read whole n list opens all image is = in_opening (here read) JournalA (take n whole) cuts (keeps_front (here read) whole n all) image is
+  where
+    cuts : Cuts JournalA (here read) (take n whole)
+    cuts payloads stands = subst (λ p. IsCut (open_events JournalA read (length (records p))) (take n whole)) (one_list read (abc ∷ []) payloads list stands) (subst (λ w. IsCut w (take n whole)) (sym opens) (n, inl refl))
 
 keeps_mend : KeepsModel (extended (here in_the_write) (synced ∷ shut ∷ synced ∷ []))
 keeps_mend area = (tt, (tt, (tt, tt)))
@@ -204,7 +255,7 @@ in_events read events (all, is, at) n image left = let same : events ≡ all = a
     subst (λ es. IsInOpening (here read) JournalA (take n es) image) (sym same) (at n image (subst (λ es. IsImage (extended (here read) (take n es)) JournalA image) same left))
 
 left_longer : ¬ OpensBy closed (synced ∷ Left JournalA (abc_then (0 ∷ 5 ∷ [])) ∷ [])
-left_longer h = let was = (in_events closed _ h 2 (abc_then (0 ∷ 5 ∷ [])) (search rules)).before (1, inr (abc_then (0 ∷ 5 ∷ []), refl, refl)) in
+left_longer h = let was = (in_events closed _ h 2 (abc_then (0 ∷ 5 ∷ [])) (search rules)).before (1, inr (JournalA, abc_then (0 ∷ 5 ∷ []), refl, refl)) in
     let bad : 8 ≤ 7 = was.no_longer in absurd (omega (arith, bad))
 
 mends : IsMendable in_the_write
@@ -217,14 +268,14 @@ xbc_then_stands : Stands xbc_then ((120 ∷ 98 ∷ 99 ∷ []) ∷ [])
 xbc_then_stands = search rules
 
 over_list : ¬ OpensBy in_the_write (synced ∷ Wrote JournalA 3 (120 ∷ []) ∷ [])
-over_list h = let mend = (in_events in_the_write _ h 2 xbc_then (search rules)).behind _ (abc ∷ []) refl is_list mends in
+over_list h = let mend = (in_events in_the_write _ h 2 xbc_then (search rules)).mended _ (abc ∷ []) refl is_list mends in
     elim (one_of_two _ _ xbc_then_stands mend) [
       | inl same ↦ unlike 120 97 (inr (lit< tt)) (ap (λ qs. slice_index (flat_map (λ q. q) qs) 0) same)
       | inr same ↦ absurd cc
     ]
 
 cut_gate : ¬ OpensBy in_the_write (synced ∷ Cut JournalA 6 ∷ [])
-cut_gate h = let mend = (in_events in_the_write _ h 2 (abc_then []) (search rules)).behind _ (abc ∷ []) refl is_list mends in
+cut_gate h = let mend = (in_events in_the_write _ h 2 (abc_then []) (search rules)).mended _ (abc ∷ []) refl is_list mends in
     elim mend [
       | inl s ↦ never_both (abc_then []) _ 0 s no_gate
       | inr longer ↦ never_both (abc_then []) _ 0 longer.2 no_gate
@@ -238,4 +289,43 @@ returns-clause-opening c = record {
   not_left_longer_by_the_first_sync = left_longer;
   not_over_a_payload = over_list;
   not_a_cut_of_the_gate = cut_gate;
+}
+
+-- ---- an opening after a stop
+
+stored : (gate : ℕ) → IsInAppend (abc ∷ []) d (abc_then (gate ∷ 0 ∷ 1 ∷ 100 ∷ 0 ∷ []))
+stored gate = inr (gate, [], record { valid = search rules; bytes = refl })
+
+begins : StaysInAppend in_the_write []
+begins image is = subst (IsInAppend (abc ∷ []) d) (sym (only_settled in_the_write image is)) (stored 7)
+
+begins_with_both : StaysInAppend with_both []
+begins_with_both image is = subst (IsInAppend (abc ∷ []) d) (sym (only_settled with_both image is)) (stored 1)
+
+keeps_shut : KeepsModel (extended (here in_the_write) (synced ∷ shut ∷ []))
+keeps_shut area = (tt, (tt, tt))
+
+keeps_both : KeepsModel (extended (here with_both) (synced ∷ []))
+keeps_both area = (tt, tt)
+
+abbrev dropped : List ℕ
+dropped = 0 ∷ 0 ∷ 3 ∷ 97 ∷ 98 ∷ 99 ∷ 1 ∷ 0 ∷ 1 ∷ 100 ∷ 0 ∷ []
+
+nothing_left : Stands dropped []
+nothing_left = search rules
+
+not_dropped : IsInAppend (abc ∷ []) d dropped → ⊥
+not_dropped w = elim (either_stands (abc ∷ []) d dropped d_fits w) [
+  | inl s ↦ let same = one_list dropped _ [] s nothing_left in absurd cc
+  | inr s ↦ let same = one_list dropped _ [] s nothing_left in absurd cc
+]
+
+pub returns-clause-reopening : goal.returns-clause-reopening
+returns-clause-reopening c = record {
+  begins = begins;
+  in_the_mend = reopen_leaves (here in_the_write) JournalA (abc ∷ []) (abc ∷ []) d (synced ∷ shut ∷ []) d_fits begins is_list (2, inl refl) keeps_shut;
+  mended = reopen_leaves (here in_the_write) JournalA (abc ∷ []) (abc ∷ []) d (synced ∷ shut ∷ synced ∷ []) d_fits begins is_list (3, inl refl) keeps_mend;
+  with_both_again = reopen_leaves (here with_both) JournalA (abc ∷ []) (abc ∷ d ∷ []) d (synced ∷ []) d_fits begins_with_both both (1, inl refl) keeps_both;
+  not_with_the_record_dropped = λ h. not_dropped (h dropped (search rules));
+  not_opened_by_dropping_it = λ h. not_dropped ((in_events with_both _ h 3 dropped (search rules)).again (abc ∷ []) d d_fits begins_with_both);
 }

@@ -1,15 +1,15 @@
-use Rattle.std.proofs.Common.{◌≡◌, ◌≢◌, ℕ, Bool, true, false, List, [], ◌∷◌, ◌++◌, Some, None, length, take, Ok, Err, refl, sym, ap, ◌∙◌, subst, inl, inr, arith, lit≤, rules, length-append}
+use Rattle.std.proofs.Common.{◌≡◌, ◌≢◌, ◌≤◌, ℕ, Bool, true, false, List, [], ◌∷◌, ◌++◌, Some, None, take, Ok, Err, refl, sym, ap, ◌∙◌, subst, inl, inr, arith, lit≤, rules}
 use Rattle.std.specs.List.{flat_map, list_any}
 use Rattle.std.specs.Prelude.{slice_index}
 use Rattle.satp_base.specs.Acts.{founded}
 use Rattle.satp_base.specs.Calls.{Told}
-use Rattle.satp_base.specs.Format.{IsMendable, Stands, StandsOpened, records}
-use Rattle.satp_base.specs.Laws.{IsInMend}
+use Rattle.satp_base.specs.Format.{IsPayload, Stands}
 use Rattle.satp_base.specs.Segments.{append_events}
 use Rattle.satp_base.specs.Trail.{IsImage, KeepsModel, Trail, extended}
 use Rattle.satp_base.specs.declared.area.Area.TheVariants.{JournalA}
 use Rattle.satp_base.specs.declared.area.Event.{Event}
 use Rattle.satp_base.specs.declared.area.Event.TheVariants.{Acted, Cut, Founded, Left, Synced, Wrote}
+use Rattle.satp_base.proofs.Closing.{either_stands}
 use Rattle.satp_base.proofs.Readings.{one_list}
 use Rattle.satp_gateway.specs.SettingUp.{SetUpAnswers, UnlessFailed, tells}
 use Rattle.satp_gateway.specs.SetUpStops.{HasFounded, IsInSetUp}
@@ -22,8 +22,7 @@ use Rattle.satp_examples.specs.Ledgers.{with_gold}
 use Rattle.satp_examples.specs.Segments.{synced}
 use Rattle.satp_examples.specs.SetUps.{empty, opened, plan, set_up, there}
 use Rattle.satp_examples.specs.SetUpStops.{SetsUpBy, opens, stores}
-use Rattle.satp_examples.proofs.Images.{both, is_whole}
-use Rattle.satp_examples.proofs.Mends.{closed_opens_not}
+use Rattle.satp_examples.proofs.Images.{is_whole}
 use Rattle.satp_examples.proofs.set_up_stops.law_set_up_stops.Goals as goal
 
 done : SetUpAnswers plan (tells (Some empty) None) (tells (Some set_up) (Some (founded with_gold))) (Ok tt)
@@ -75,16 +74,8 @@ no_founding events none (front, behind, is) = let there : list_any is_founding e
 
 -- ---- what an empty area may become
 
-nothing_opens : (longer : List (List ℕ)) → StandsOpened [] longer → ⊥
-nothing_opens longer (list, gate, behind, shuts, ends, stands) =
-    let none : 0 ≡ length (records list ++ gate ∷ behind) = ap length ends.bytes in let more = length-append (records list) (gate ∷ behind) in absurd (omega (arith, none, more))
-
-stands_for : (image : List ℕ) (list : List (List ℕ)) → Stands image list → IsInMend [] [] image → list ≡ []
-stands_for image list stands (inl s) = one_list image list [] stands s
-stands_for image list stands (inr (longer, opened, s)) = absurd (nothing_opens longer opened)
-
-d_stands : Stands (1 ∷ 0 ∷ 1 ∷ 100 ∷ 0 ∷ []) (d ∷ [])
-d_stands = search rules
+d_fits : IsPayload d
+d_fits = search rules
 
 other_stands : Stands (1 ∷ 0 ∷ 1 ∷ 101 ∷ 0 ∷ []) ((101 ∷ []) ∷ [])
 other_stands = search rules
@@ -92,34 +83,23 @@ other_stands = search rules
 abbrev first_byte : List (List ℕ) → ℕ
 first_byte qs = slice_index (flat_map (λ q. q) qs) 0
 
-nothing_mends : IsMendable []
-nothing_mends = inl (lit≤ tt)
-
 too_early : ¬ SetsUpBy empty (opens ++ stores ++ Founded ∷ [])
 unfolding is_founding
-too_early h = elim ((at_event empty _ refl h 7 (1 ∷ 0 ∷ 1 ∷ 100 ∷ 0 ∷ []) (search rules)).behind _ [] refl (search rules) nothing_mends) [
-  | inl mend ↦ let same = stands_for _ (d ∷ []) d_stands mend in absurd cc
-  | inr stored ↦ no_founding _ refl stored.0
+too_early h = elim (at_event empty _ refl h 7 (1 ∷ 0 ∷ 1 ∷ 100 ∷ 0 ∷ []) (search rules)).opening [
+  | inl opening ↦ let bad : 5 ≤ 1 = opening.short _ refl (lit≤ tt) in absurd (omega (arith, bad))
+  | inr founding ↦ no_founding _ refl founding
 ]
 
 other_record : ¬ SetsUpBy empty (opens ++ Founded ∷ append_events JournalA 0 (101 ∷ []))
-other_record h = elim ((at_event empty _ refl h 8 (1 ∷ 0 ∷ 1 ∷ 101 ∷ 0 ∷ []) (search rules)).behind _ [] refl (search rules) nothing_mends) [
-  | inl mend ↦ let same = stands_for _ ((101 ∷ []) ∷ []) other_stands mend in absurd cc
-  | inr stored ↦ let same = one_list _ (d ∷ []) ((101 ∷ []) ∷ []) stored.2 other_stands in let bad : 100 ≡ 101 = ap first_byte same in absurd (omega (arith, bad))
+other_record h = elim (either_stands [] d _ d_fits ((at_event empty _ refl h 8 (1 ∷ 0 ∷ 1 ∷ 101 ∷ 0 ∷ []) (search rules)).founded (opens, append_events JournalA 0 (101 ∷ []), refl)).1) [
+  | inl none ↦ let same = one_list _ [] ((101 ∷ []) ∷ []) none other_stands in absurd cc
+  | inr stored ↦ let same = one_list _ (d ∷ []) ((101 ∷ []) ∷ []) stored other_stands in let bad : 100 ≡ 101 = ap first_byte same in absurd (omega (arith, bad))
 ]
-
-closed_mends : IsMendable closed
-closed_mends = inr (inl (abc ∷ [], ([], record { valid = search rules; bytes = refl })))
-
-not_mended : IsInMend closed (abc ∷ []) (abc_then (1 ∷ 0 ∷ 1 ∷ 100 ∷ 0 ∷ [])) → ⊥
-not_mended (inl s) = let same = one_list _ (abc ∷ []) (abc ∷ d ∷ []) s both in absurd cc
-not_mended (inr (longer, opened, s)) = closed_opens_not longer opened
 
 behind_record : ¬ SetsUpBy (uncalled closed) (synced ∷ Founded ∷ append_events JournalA 6 d)
-behind_record h = elim ((at_event (uncalled closed) _ refl h 6 (abc_then (1 ∷ 0 ∷ 1 ∷ 100 ∷ 0 ∷ [])) (search rules)).behind _ (abc ∷ []) refl is_whole closed_mends) [
-  | inl mend ↦ not_mended mend
-  | inr stored ↦ some stored.1
-]
+behind_record h =
+    let read = ((at_event (uncalled closed) _ refl h 6 (abc_then (1 ∷ 0 ∷ 1 ∷ 100 ∷ 0 ∷ [])) (search rules)).founded (synced ∷ [], append_events JournalA 6 d, refl)).0 in
+    let same = one_list closed [] (abc ∷ []) read is_whole in absurd cc
 
 -- ---- all of it
 

@@ -1,6 +1,6 @@
-use Rattle.std.proofs.Common.{◌≡◌, ◌≢◌, ℕ, [], ◌∷◌, length, Option, Some, None, option_map, Ok, Err, refl, ap, subst, inl, inr, arith, rules, length-append}
+use Rattle.std.proofs.Common.{◌≡◌, ◌≢◌, ℕ, true, [], ◌∷◌, length, Option, Some, None, option_map, Ok, Err, refl, ap, subst, inl, inr, arith, rules, length-append}
 use Rattle.std.specs.Option.{option_map_or}
-use Rattle.satp_base.specs.Calls.{Told, made}
+use Rattle.satp_base.specs.Calls.{Ask, Told, made}
 use Rattle.satp_base.specs.Format.{Damage}
 use Rattle.satp_base.specs.Segments.{append_events}
 use Rattle.satp_base.specs.declared.area.Area.TheVariants.{JournalA}
@@ -25,7 +25,7 @@ asks o = option_map_or (λ (t : Told). length t.asks) o 0
 
 not_founded : (o : Option Told) → Some without_ledger ≡ option_map (made 4 (append_events JournalA 0 d)) (option_map (founds plan) o) → ⊥
 not_founded None e = absurd cc
-not_founded (Some t) e = let none : 0 ≡ length (founds plan t).asks = ap asks e in let more = length-append t.asks (Found plan.kind plan.genesis ∷ []) in absurd (omega (arith, none, more))
+not_founded (Some t) e = let none : 0 ≡ length (founds plan t).asks = ap asks e in let ask : Ask = record { call = Found plan.kind plan.genesis; before = t.calls; succeeded = true } in let more = length-append t.asks (ask ∷ []) in absurd (omega (arith, none, more))
 
 founded_once : SetUpAnswers plan (tells (Some empty) None) (tells (Some (founds plan opened)) None) (Err Memory) → ⊥
 founded_once (inl (inl e, book)) = let bad : 1 ≡ 0 = ap asks e in omega (arith, bad)

@@ -1,4 +1,4 @@
-use Rattle.std.proofs.Common.{◌∙◌, ap, arith, length, refl, sym}
+use Rattle.std.proofs.Common.{ap, arith, length, refl}
 use Rattle.satp_gateway.proofs.set_up.open_vacant.Goals as goal
 
 pub returns-in-Ok-2-clause-answers : goal.returns-in-Ok-2-clause-answers

@@ -22,13 +22,13 @@ pub fn run_arguments<S: Site, I: Source, K: Sink, E: Sink>(
     out: &mut K,
     err: &mut E,
 ) -> u8
-    requires input { I.is_over input.old ≡ false }
-    requires out { K.has_failed out.old ≡ false }
-    requires err { E.has_failed err.old ≡ false }
+    requires over { I.is_over input.old ≡ false }
+    requires out_failed { K.has_failed out.old ≡ false }
+    requires err_failed { E.has_failed err.old ≡ false }
     ensures { ArgumentsRule arguments
-        (outside (streams (source I.faults I.left input.old) (sink K.faults K.taken out.old)) (site_state S.faults S.told S.book site.old))
-        (outside (streams (source I.faults I.left input.new) (sink K.faults K.taken out.new)) (site_state S.faults S.told S.book site.new))
-        (sink E.faults E.taken err.old) (sink E.faults E.taken err.new) result }
+        (outside (streams (source I.faults I.left I.is_over input.old) (sink K.faults K.taken K.has_failed out.old)) (site_state S.faults S.told S.book site.old))
+        (outside (streams (source I.faults I.left I.is_over input.new) (sink K.faults K.taken K.has_failed out.new)) (site_state S.faults S.told S.book site.new))
+        (sink E.faults E.taken E.has_failed err.old) (sink E.faults E.taken E.has_failed err.new) result }
 {
     match given(alloc, arguments) {
         Ok(words) => run(alloc, &words, site, input, out, err),

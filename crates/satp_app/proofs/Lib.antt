@@ -1,3 +1,4 @@
+mod GivenWords
 pub mod Reading
 pub mod Writing
 pub mod Ends

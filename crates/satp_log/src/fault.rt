@@ -1,0 +1,35 @@
+use satp_canon::CanonFault;
+use satp_jws::JwsFault;
+
+/// Why a text is no message's own text under a key. The variants stand in the order in which they are tested; want of memory may come at any point.
+#[derive(Clone, Copy, Debug, PartialEq, Eq)]
+pub enum Unheard {
+    /// It is no compact JWS under the key. The fault is never want of memory.
+    Jws { fault: JwsFault },
+    /// Its header isn't `{"alg":"HS256"}`, byte for byte.
+    Header,
+    /// Its payload is no message's canonical text. The fault is never want of memory.
+    Body { fault: CanonFault },
+    /// No memory was found.
+    Memory,
+}
+
+/// Why a record isn't added to a session.
+#[derive(Clone, Copy, Debug, PartialEq, Eq)]
+pub enum Misfit {
+    /// It may not come next.
+    Refused,
+    /// No memory was found.
+    Memory,
+}
+
+/// Why payloads are no gateway's journal.
+#[derive(Clone, Copy, Debug, PartialEq, Eq)]
+pub enum LogFault {
+    /// There is none.
+    Empty,
+    /// The one at this index, from 0, is the first that may not stand there.
+    Record { index: usize },
+    /// No memory was found.
+    Memory,
+}

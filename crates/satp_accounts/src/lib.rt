@@ -3,7 +3,5 @@
 
 mod accounts;
 mod begin;
-#[cfg(test)]
-mod tests;
 
 pub use accounts::Accounts;

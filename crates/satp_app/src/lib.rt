@@ -11,8 +11,6 @@ mod outcome;
 mod reply;
 mod report;
 mod streams;
-#[cfg(test)]
-mod tests;
 mod top;
 
 pub use outcome::{Outcome, Refusal};

@@ -63,6 +63,6 @@ OnArea area None after result = (after ≡ None) × IsErr result
 OnArea area (Some before) after result = IsSomeAnd after (Touches area before)
 
 -- A second disk is in the directory of the first, and a first one that is in none has no second.
-abbrev pub Beside : Option Folder → Option Folder → Type 0
-Beside None second = ⊥
-Beside (Some first) second = IsSomeAnd second (StandsIn (path_buf_bytes first.path))
+abbrev pub IsSecond : Option Folder → Option Folder → Type 0
+IsSecond None second = ⊥
+IsSecond (Some first) second = IsSomeAnd second (StandsIn (path_buf_bytes first.path))

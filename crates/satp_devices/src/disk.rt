@@ -1,7 +1,8 @@
+ghost use Rattle.std.proofs.Common.{refl, ◌∙◌};
 ghost use Rattle.std.specs.Prelude.{◌≡◌, ◌≤◌, ◌+◌, ◌-◌, ◌^◌, None, length, drop, IfOk, OnOk};
 ghost use Rattle.satp_base.specs.Streams.{HasCause};
 ghost use Rattle.satp_devices.specs.Counting.{Counts};
-ghost use Rattle.satp_devices.specs.Places.{Beside, Entered, Enters, OnArea};
+ghost use Rattle.satp_devices.specs.Places.{Entered, Enters, IsSecond, OnArea};
 ghost use Rattle.satp_devices.specs.Untold.{untold_keeps};
 
 use crate::faults::counted;
@@ -21,6 +22,8 @@ pub struct FileDisk<R: Files<File = File> + Copy> {
     alloc: Global,
     folder: Option<Folder>,
     faults: u64,
+    /// How often the second disk had failed when it was given back.
+    second_faults: u64,
 }
 
 impl<R: Files<File = File> + Copy> FileDisk<R> {
@@ -28,24 +31,27 @@ impl<R: Files<File = File> + Copy> FileDisk<R> {
     pub fn new(files: R, alloc: Global) -> FileDisk<R>
         ensures place { result.folder ≡ None }
         ensures faults { result.faults ≡ 0 }
+        ensures second { result.second_faults ≡ 0 }
     {
         FileDisk {
             files,
             alloc,
             folder: None,
             faults: 0,
+            second_faults: 0,
         }
     }
 
-    /// A second disk in the same directory, under the lock of this one, which has to outlive it.
+    /// A second disk in the same directory, under the lock of this one, which has to outlive it. It counts its faults from where the last one was given back.
     ///
     /// `DiskFault` where this disk is in no directory, and where the directory fails.
-    pub fn beside(&mut self) -> Result<FileDisk<R>, DiskFault>
+    pub fn second(&mut self) -> Result<FileDisk<R>, DiskFault>
         ensures cause { HasCause self.old.faults self.new.faults result }
         ensures counts { Counts self.old.faults self.new.faults result }
         ensures here { self.new.folder ≡ self.old.folder }
-        ensures place { IfOk result (λ disk. Beside self.old.folder disk.folder) }
-        ensures faults { IfOk result (λ disk. disk.faults ≡ 0) }
+        ensures second { self.new.second_faults ≡ self.old.second_faults }
+        ensures place { IfOk result (λ disk. IsSecond self.old.folder disk.folder) }
+        ensures faults { IfOk result (λ disk. disk.faults ≡ self.old.second_faults) }
     {
         let answer = match &self.folder {
             Some(folder) => folder.again(&self.files, self.alloc),
@@ -56,8 +62,16 @@ impl<R: Files<File = File> + Copy> FileDisk<R> {
             files: self.files,
             alloc: self.alloc,
             folder: Some(folder),
-            faults: 0,
+            faults: self.second_faults,
+            second_faults: 0,
         })
+    }
+
+    /// Takes a second disk back, which is let go.
+    pub fn give_back(&mut self, second: FileDisk<R>)
+        ensures { self.new ≡ record self.old { second_faults = second.faults } }
+    {
+        self.second_faults = second.faults;
     }
 
     /// Opens a directory, and counts where that fails.
@@ -65,6 +79,7 @@ impl<R: Files<File = File> + Copy> FileDisk<R> {
         ensures cause { HasCause self.old.faults self.new.faults result }
         ensures counts { Counts self.old.faults self.new.faults result }
         ensures here { self.new.folder ≡ self.old.folder }
+        ensures second { self.new.second_faults ≡ self.old.second_faults }
         ensures folder { IfOk result (λ folder. Entered dir.now folder) }
     {
         let answer = Folder::enter(&self.files, self.alloc, dir);
@@ -80,12 +95,19 @@ impl<R: Files<File = File> + Copy> Device for FileDisk<R> {
     ghost faults = { λ d. d.faults };
 
     ghost keeps_model = { λ d t is. untold_keeps t is };
+
+    ghost beside = { λ a b. b.second_faults ≡ a.second_faults };
+
+    ghost beside_same = { λ d. refl };
+
+    ghost beside_then = { λ a b c first then. then ∙ first };
 }
 
 impl<R: Files<File = File> + Copy> Disk for FileDisk<R> {
     fn enter(&mut self, dir: &[u8]) -> Result<(), DiskFault>
         ensures cause { HasCause self.old.faults self.new.faults result }
         ensures counts { Counts self.old.faults self.new.faults result }
+        ensures second { self.new.second_faults ≡ self.old.second_faults }
         ensures place { Enters dir.now self.new.folder result }
     {
         // An earlier lock is given back first, so that the same directory can be entered again.
@@ -97,6 +119,7 @@ impl<R: Files<File = File> + Copy> Disk for FileDisk<R> {
     fn length(&mut self, area: Area) -> Result<u64, DiskFault>
         ensures cause { HasCause self.old.faults self.new.faults result }
         ensures counts { Counts self.old.faults self.new.faults result }
+        ensures second { self.new.second_faults ≡ self.old.second_faults }
         ensures place { OnArea area self.old.folder self.new.folder result }
     {
         let answer = match &mut self.folder {
@@ -111,6 +134,7 @@ impl<R: Files<File = File> + Copy> Disk for FileDisk<R> {
         ensures rest { IfOk result (λ n. drop n into.new ≡ drop n into.old) }
         ensures cause { HasCause self.old.faults self.new.faults result }
         ensures counts { Counts self.old.faults self.new.faults result }
+        ensures second { self.new.second_faults ≡ self.old.second_faults }
         ensures place { OnArea area self.old.folder self.new.folder result }
     {
         let answer = match &mut self.folder {
@@ -124,6 +148,7 @@ impl<R: Files<File = File> + Copy> Disk for FileDisk<R> {
         ensures fits { OnOk result (at + length bytes.now ≤ 2 ^ 64 - 1) }
         ensures cause { HasCause self.old.faults self.new.faults result }
         ensures counts { Counts self.old.faults self.new.faults result }
+        ensures second { self.new.second_faults ≡ self.old.second_faults }
         ensures place { OnArea area self.old.folder self.new.folder result }
     {
         let answer = match &mut self.folder {
@@ -136,6 +161,7 @@ impl<R: Files<File = File> + Copy> Disk for FileDisk<R> {
     fn cut(&mut self, area: Area, size: u64) -> Result<(), DiskFault>
         ensures cause { HasCause self.old.faults self.new.faults result }
         ensures counts { Counts self.old.faults self.new.faults result }
+        ensures second { self.new.second_faults ≡ self.old.second_faults }
         ensures place { OnArea area self.old.folder self.new.folder result }
     {
         let answer = match &mut self.folder {
@@ -148,6 +174,7 @@ impl<R: Files<File = File> + Copy> Disk for FileDisk<R> {
     fn sync(&mut self, area: Area) -> Result<(), DiskFault>
         ensures cause { HasCause self.old.faults self.new.faults result }
         ensures counts { Counts self.old.faults self.new.faults result }
+        ensures second { self.new.second_faults ≡ self.old.second_faults }
         ensures place { OnArea area self.old.folder self.new.folder result }
     {
         let answer = match &mut self.folder {

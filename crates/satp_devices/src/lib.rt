@@ -8,8 +8,6 @@ mod disk;
 mod faults;
 mod folder;
 mod streams;
-#[cfg(test)]
-mod tests;
 
 pub use disk::FileDisk;
 pub use faults::counted;

@@ -11,7 +11,8 @@ use Rattle.satp_base.specs.declared.record.Rec.TheVariants.{Made, Took, Chose}
 use Rattle.satp_base.specs.declared.record.Cause.TheVariants.{Aborted}
 use Rattle.satp_base.specs.declared.record.Way.TheVariants.{Commit, Back}
 use Rattle.satp_world.specs.Deal.{Deal, Decision, DealStep, untouched}
-use Rattle.satp_world.specs.Sessions.{Agrees, IsSafe, IsSettled, Session, Tied, unbegun}
+use Rattle.satp_sides.specs.Halves.{Agrees}
+use Rattle.satp_world.specs.Sessions.{IsSafe, IsSettled, Session, Tied, unbegun}
 use Rattle.satp_examples.specs.Roles.{origin, recipient, ready, up_to_ready, up_to_the_mint}
 
 -- ---- the deal machine

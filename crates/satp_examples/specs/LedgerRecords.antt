@@ -15,8 +15,8 @@ use Rattle.satp_base.specs.declared.record.Cause.TheVariants.{Aborted, LockRefus
 use Rattle.satp_base.specs.declared.record.Rec.{Rec}
 use Rattle.satp_base.specs.declared.record.Rec.TheVariants.{Chose, Did}
 use Rattle.satp_base.specs.declared.record.Way.TheVariants.{Back}
+use Rattle.satp_sides.specs.Moves.{LedgerFits}
 use Rattle.satp_memory.specs.Sites.{ActTells}
-use Rattle.satp_world.specs.Worlds.{LedgerFits}
 use Rattle.satp_examples.specs.Acts.{lock_event, locked}
 use Rattle.satp_examples.specs.Calls.{two_calls}
 use Rattle.satp_examples.specs.Ledgers.{at_most_free, book_with, new_book, past_what_is_free}

@@ -14,7 +14,7 @@ use Rattle.satp_base.specs.declared.ledger.LedgerKind.TheVariants.{Accounts, Out
 use Rattle.satp_base.specs.declared.ledger.LedgerOp.TheVariants.{Lock}
 use Rattle.satp_base.specs.declared.site.SiteFault.{SiteFault}
 use Rattle.satp_devices.specs.Counting.{Counts}
-use Rattle.satp_devices.specs.Places.{Beside, Enters, OnArea}
+use Rattle.satp_devices.specs.Places.{Enters, IsSecond, OnArea}
 use Rattle.satp_devices.specs.declared.area_file.AreaFile.{AreaFile}
 use Rattle.satp_devices.specs.declared.folder.Folder.{Folder}
 use Rattle.satp_site.specs.Keeping.{KeptState}
@@ -114,5 +114,5 @@ pub record PlacesOfADisk : Type 0 where
   pub a_failed_entering : (dir : List ℕ) (fault : DiskFault) → EntersThere dir None (Err fault)
   pub not_into_none : (dir : List ℕ) → ¬ EntersThere dir None (Ok tt)
   pub not_where_it_was : (dir : List ℕ) (f : Folder) (fault : DiskFault) → ¬ EntersThere dir (Some f) (Err fault)
-  pub no_second_of_none : (f : Folder) → ¬ Beside None (Some f)
-  pub no_second_in_none : (f : Folder) → ¬ Beside (Some f) None
+  pub no_second_of_none : (f : Folder) → ¬ IsSecond None (Some f)
+  pub no_second_in_none : (f : Folder) → ¬ IsSecond (Some f) None

@@ -9,7 +9,8 @@ use Rattle.satp_base.specs.declared.message.Role.TheVariants.{Origin, Recipient}
 use Rattle.satp_base.specs.declared.message.Part.TheVariants.{Proposal}
 use Rattle.satp_base.specs.declared.record.Rec.TheVariants.{Began}
 use Rattle.satp_base.specs.declared.session.SessionId.{SessionId}
-use Rattle.satp_world.specs.Worlds.{IsSafeWorld, Setting, Side, Text, World, start, with_record}
+use Rattle.satp_sides.specs.Points.{Side, Text, with_record}
+use Rattle.satp_world.specs.Worlds.{IsSafeWorld, Setting, World, start}
 use Rattle.satp_examples.specs.Ledgers.{book_with, new_book, with_gold}
 use Rattle.satp_examples.specs.Samples.{alpha, alpha_1, ann, beta, quarter}
 

@@ -5,8 +5,6 @@ mod fault;
 mod gateway;
 mod payload;
 mod set_up;
-#[cfg(test)]
-mod tests;
 
 pub use fault::SetUpFault;
 pub use gateway::Gateway;

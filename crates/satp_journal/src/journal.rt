@@ -1,9 +1,9 @@
-ghost use Rattle.std.specs.Prelude.{◌≡◌, ◌≤◌, ◌<◌, ◌⊎◌, ◌+◌, ◌^◌, false, length, slice_get, IfOk, IfErr, OnOk, OnErr};
+ghost use Rattle.std.specs.Prelude.{◌≡◌, ◌≢◌, ◌≤◌, ◌<◌, ◌⊎◌, ◌+◌, ◌^◌, false, length, slice_get, IfOk, IfErr, OnOk, OnErr};
 ghost use Rattle.std.specs.Option.{option_copied};
 ghost use Rattle.satp_base.specs.Format.{records};
 ghost use Rattle.satp_base.specs.Streams.{Rose};
 ghost use Rattle.satp_journal.specs.State.{Fits};
-ghost use Rattle.satp_journal.specs.Appending.{AppendAnswers, AppendStops, RestsStill};
+ghost use Rattle.satp_journal.specs.Appending.{AppendAnswers, AppendStops, AppendRests};
 ghost use Rattle.satp_journal.specs.Opening.{OpenAnswers, OpenStops, Rests};
 
 use crate::fault::JournalFault;
@@ -50,8 +50,11 @@ impl Journal {
         ensures rests { IfOk result (λ journal. Rests (D.told disk.new) journal.held) }
         ensures fits { IfOk result (λ journal. Fits journal.held (D.told disk.new)) }
         ensures ledger { D.book disk.new ≡ D.book disk.old }
+        ensures beside { D.beside disk.old disk.new }
         ensures later { D.faults disk.old ≤ D.faults disk.new }
         ensures cause { IfErr result (λ fault. fault ≡ JournalFault.Disk → Rose (D.faults disk.old) (D.faults disk.new)) }
+        ensures kept { OnOk result (D.faults disk.new ≡ D.faults disk.old) }
+        ensures still { IfErr result (λ fault. fault ≢ JournalFault.Disk → D.faults disk.new ≡ D.faults disk.old) }
     {
         let image = match read_synced(alloc, disk, area) {
             Ok(image) => image,
@@ -106,11 +109,14 @@ impl Journal {
         ensures records { OnOk result (self.old.spare_records ≤ self.new.spare_records + 1) }
         ensures bytes { OnOk result (self.old.spare_bytes ≤ self.new.spare_bytes + length payload.now) }
         ensures stops { AppendStops payload.now self.old.held (D.told disk.old) (D.told disk.new) }
-        ensures rests { OnOk result (RestsStill self.old.held.area self.old.held.payloads self.new.held.payloads (D.told disk.old) (D.told disk.new)) }
+        ensures rests { OnOk result (AppendRests payload.now self.old.held (D.told disk.old) (D.told disk.new)) }
         ensures fits { self.new.held.broken ≡ false → Fits self.new.held (D.told disk.new) }
         ensures ledger { D.book disk.new ≡ D.book disk.old }
+        ensures beside { D.beside disk.old disk.new }
         ensures later { D.faults disk.old ≤ D.faults disk.new }
         ensures cause { IfErr result (λ fault. fault ≡ JournalFault.Disk → Rose (D.faults disk.old) (D.faults disk.new)) }
+        ensures kept { OnOk result (D.faults disk.new ≡ D.faults disk.old) }
+        ensures still { IfErr result (λ fault. fault ≢ JournalFault.Disk → D.faults disk.new ≡ D.faults disk.old) }
     {
         if self.broken {
             return Err(JournalFault::Broken);

@@ -12,8 +12,6 @@ mod open;
 mod scan;
 mod stock;
 mod store;
-#[cfg(test)]
-mod tests;
 
 pub use fault::{JournalFault, Unread};
 pub use journal::Journal;

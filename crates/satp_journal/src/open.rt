@@ -1,10 +1,10 @@
-ghost use Rattle.std.specs.Prelude.{◌≡◌, ◌≤◌, IfOk, IfErr, OnOk, OnErr, true, length, option_map};
+ghost use Rattle.std.specs.Prelude.{◌≡◌, ◌≢◌, ◌≤◌, IfOk, IfErr, OnOk, OnErr, length};
 ghost use Rattle.std.specs.Option.{ForSome};
-ghost use Rattle.satp_base.specs.Calls.{FailsAmong, made};
-ghost use Rattle.satp_base.specs.Segments.{mend_events, shut_events, wants_gate};
+ghost use Rattle.satp_base.specs.Calls.{FailsAmong, Makes};
+ghost use Rattle.satp_base.specs.Segments.{wants_gate};
 ghost use Rattle.satp_base.specs.Streams.{HasCause, Rose};
 ghost use Rattle.satp_base.specs.Trail.{seen};
-ghost use Rattle.satp_journal.specs.Opening.{IsRead, ReadFails, Synces, mend_calls};
+ghost use Rattle.satp_journal.specs.Opening.{IsRead, ReadFails, mend_calls, read_calls};
 ghost use Rattle.satp_journal.specs.declared.fault.JournalFault.{JournalFault};
 
 use crate::fault::JournalFault;
@@ -18,11 +18,14 @@ pub fn read_synced<D: Disk>(
     disk: &mut D,
     area: Area,
 ) -> Result<Vec<u8>, JournalFault>
-    ensures ok { IfOk result (λ image. IsRead area (D.told disk.old) image.items × Synces 3 area (D.told disk.old) (D.told disk.new)) }
+    ensures ok { IfOk result (λ image. IsRead area (D.told disk.old) image.items × Makes (read_calls area) (D.told disk.old) (D.told disk.new)) }
     ensures err { IfErr result (ReadFails area (D.told disk.old) (D.told disk.new)) }
     ensures ledger { D.book disk.new ≡ D.book disk.old }
+    ensures beside { D.beside disk.old disk.new }
     ensures later { D.faults disk.old ≤ D.faults disk.new }
     ensures cause { IfErr result (λ fault. fault ≡ JournalFault.Disk → Rose (D.faults disk.old) (D.faults disk.new)) }
+    ensures kept { OnOk result (D.faults disk.new ≡ D.faults disk.old) }
+    ensures still { IfErr result (λ fault. fault ≢ JournalFault.Disk → D.faults disk.new ≡ D.faults disk.old) }
 {
     disk.sync(area)?;
     let length = disk.length(area)?;
@@ -32,12 +35,13 @@ pub fn read_synced<D: Disk>(
     Ok(bytes)
 }
 
-/// Writes a closed gate where the one behind the list of an image isn't 0, or the image is empty.
+/// Writes a closed gate where the one after the list of an image isn't 0, or the image is empty.
 pub fn mend<D: Disk>(disk: &mut D, area: Area, image: &[u8], gate: usize) -> Result<(), DiskFault>
     requires { ForSome (D.told disk.old) (λ t. gate ≤ length (seen t.trail area)) }
-    ensures ok { OnOk result (D.told disk.new ≡ option_map (made (mend_calls image.now gate) (mend_events area image.now gate)) (D.told disk.old)) }
-    ensures err { OnErr result ((wants_gate image.now gate ≡ true) × FailsAmong area (shut_events area gate) (D.told disk.old) (D.told disk.new)) }
+    ensures ok { OnOk result (Makes (mend_calls area image.now gate) (D.told disk.old) (D.told disk.new)) }
+    ensures err { OnErr result (FailsAmong (mend_calls area image.now gate) (D.told disk.old) (D.told disk.new)) }
     ensures ledger { D.book disk.new ≡ D.book disk.old }
+    ensures beside { D.beside disk.old disk.new }
     ensures cause { HasCause (D.faults disk.old) (D.faults disk.new) result }
 {
     if wants_gate(image, gate) {

@@ -2,7 +2,7 @@ ghost use Rattle.std.specs.Prelude.{◌≡◌, ◌≤◌, ◌<◌, ◌+◌, ◌^
 ghost use Rattle.std.specs.Option.{ForSome};
 ghost use Rattle.satp_base.specs.Streams.{HasCause};
 ghost use Rattle.satp_base.specs.Trail.{seen};
-ghost use Rattle.satp_base.specs.Calls.{made, FailsAmong};
+ghost use Rattle.satp_base.specs.Calls.{made, calls_of, FailsAmong};
 ghost use Rattle.satp_base.specs.Format.{counted};
 ghost use Rattle.satp_base.specs.Segments.{append_events, frame_events, shut_events};
 
@@ -24,9 +24,10 @@ pub fn store<D: Disk>(disk: &mut D, area: Area, gate: u64, payload: &[u8]) -> Re
     requires room { gate + 1 < 2 ^ 64 }
     requires most { length payload.now ≤ 4096 }
     ensures ok { OnOk result (D.told disk.new ≡ option_map (made 4 (append_events area gate payload.now)) (D.told disk.old)) }
-    ensures err { OnErr result (FailsAmong area (append_events area gate payload.now) (D.told disk.old) (D.told disk.new)) }
+    ensures err { OnErr result (FailsAmong (calls_of (append_events area gate payload.now)) (D.told disk.old) (D.told disk.new)) }
     ensures fits { OnOk result (gate + length payload.now + 4 ≤ 2 ^ 64 - 1) }
     ensures ledger { D.book disk.new ≡ D.book disk.old }
+    ensures beside { D.beside disk.old disk.new }
     ensures cause { HasCause (D.faults disk.old) (D.faults disk.new) result }
 {
     let mut frame = [0; MOST + AROUND];
@@ -51,9 +52,10 @@ fn store_frame<D: Disk>(disk: &mut D, area: Area, gate: u64, frame: &[u8]) -> Re
     requires there { ForSome (D.told disk.old) (λ t. gate < length (seen t.trail area)) }
     requires room { gate + 1 < 2 ^ 64 }
     ensures ok { OnOk result (D.told disk.new ≡ option_map (made 4 (frame_events area gate frame.now)) (D.told disk.old)) }
-    ensures err { OnErr result (FailsAmong area (frame_events area gate frame.now) (D.told disk.old) (D.told disk.new)) }
+    ensures err { OnErr result (FailsAmong (calls_of (frame_events area gate frame.now)) (D.told disk.old) (D.told disk.new)) }
     ensures fits { OnOk result (gate + 1 + length frame.now ≤ 2 ^ 64 - 1) }
     ensures ledger { D.book disk.new ≡ D.book disk.old }
+    ensures beside { D.beside disk.old disk.new }
     ensures cause { HasCause (D.faults disk.old) (D.faults disk.new) result }
 {
     disk.write(area, gate + 1, frame)?;
@@ -67,8 +69,9 @@ fn store_frame<D: Disk>(disk: &mut D, area: Area, gate: u64, frame: &[u8]) -> Re
 pub fn shut<D: Disk>(disk: &mut D, area: Area, gate: u64) -> Result<(), DiskFault>
     requires there { ForSome (D.told disk.old) (λ t. gate ≤ length (seen t.trail area)) }
     ensures ok { OnOk result (D.told disk.new ≡ option_map (made 2 (shut_events area gate)) (D.told disk.old)) }
-    ensures err { OnErr result (FailsAmong area (shut_events area gate) (D.told disk.old) (D.told disk.new)) }
+    ensures err { OnErr result (FailsAmong (calls_of (shut_events area gate)) (D.told disk.old) (D.told disk.new)) }
     ensures ledger { D.book disk.new ≡ D.book disk.old }
+    ensures beside { D.beside disk.old disk.new }
     ensures cause { HasCause (D.faults disk.old) (D.faults disk.new) result }
 {
     disk.write(area, gate, &[CLOSED])?;

@@ -1,30 +1,29 @@
 -- What a stop leaves of a founding.
-use Rattle.std.proofs.Common.{◌≡◌, ℕ, zero, suc, ◌+◌, List, [], ◌∷◌, ◌++◌, length, take, Option, Some, None, option_map, refl, ap, subst, sym, ◌∙◌, inl, inr, ⊎_elim, arith, append_assoc, length-append}
-use Rattle.std.specs.Prelude.{slice_get}
+use Rattle.std.proofs.Common.{◌≡◌, ℕ, zero, suc, List, [], ◌∷◌, ◌++◌, length, take, Option, Some, None, refl, ap, subst, sym, ◌∙◌, inl, inr, ⊎_elim, arith, append_assoc}
 use Rattle.std.specs.List.{AllByRecursion, fold}
-use Rattle.std.proofs.lemmas.List.{append-nil, take_all}
+use Rattle.std.proofs.lemmas.List.{append-nil}
 use Rattle.std.proofs.lemmas.List.Sums.{fold-append}
 use Rattle.std.proofs.Math.Seq.{take-append_seam}
 use Rattle.satp_base.specs.declared.area.Area.TheVariants.{Ledger}
 use Rattle.satp_base.specs.declared.area.Event.{Event}
 use Rattle.satp_base.specs.declared.area.Event.TheVariants.{Cut, Left, Synced}
-use Rattle.satp_base.specs.Calls.{Told, made, IsFailure}
-use Rattle.satp_base.specs.Format.{IsPayload, Stands, StandsOpened, records}
-use Rattle.satp_base.specs.Laws.{IsInMend, RestsAt}
-use Rattle.satp_base.specs.Segments.{EndsInChange, IsChangeOf, IsCut, append_events, open_events}
+use Rattle.satp_base.specs.Calls.{Told, FailsAmong, Makes, events_in}
+use Rattle.satp_base.specs.Format.{IsPayload, Stands, records}
+use Rattle.satp_base.specs.Laws.{IsOpening, RestsAt}
+use Rattle.satp_base.specs.Segments.{IsCut, append_events, last_area, open_events}
 use Rattle.satp_base.specs.Trail.{Trail, Standing, IsImage, KeepsModel, Leaves, extended, next, seen, settled, standing}
-use Rattle.satp_base.proofs.Closing.{append_ends, append_leaves, rest_stands}
-use Rattle.satp_base.proofs.Cuts.{cut_append, cut_front, ends_behind}
-use Rattle.satp_base.proofs.Made.{made-made, made_none, take_more}
-use Rattle.satp_base.proofs.Opens.{open_ends, open_leaves}
+use Rattle.satp_base.proofs.Closing.{append_ends, append_leaves, either_stands, rest_stands}
+use Rattle.satp_base.proofs.Cuts.{cut_append, cut_front}
+use Rattle.satp_base.proofs.Made.{GrowsBy, among_cut, events_of_calls, events_prefix, made_grows, made_none}
+use Rattle.satp_base.proofs.Opens.{open_ends, open_stays_short}
 use Rattle.satp_base.proofs.Standings.{cut_leaves, keeps_split, take_nil}
-use Rattle.satp_base.proofs.Stopping.{extended_none, extended_twice}
-use Rattle.satp_journal.proofs.AppendLemmas.{Keeps, keeps_front, trail_is}
-use Rattle.satp_keeper.specs.Founding.{FailsWithin, FoundStops, IsInFounding, Makes, UnfoundedBy, events_in, found_calls, stored_events}
+use Rattle.satp_base.proofs.Trails.{extended_none, extended_twice, keeps_before, keeps_front}
+use Rattle.satp_journal.proofs.AppendLemmas.{Keeps, trail_is}
+use Rattle.satp_journal.proofs.OpenLemmas.{cut_self}
+use Rattle.satp_keeper.specs.Founding.{FoundStops, IsInFounding, UnfoundedBy, found_calls, stored_events}
 use Rattle.satp_keeper.specs.declared.fault.KeeperFault.{KeeperFault}
 use Rattle.satp_keeper.specs.declared.fault.KeeperFault.TheVariants.{OutOfOrder, Empty, Damaged, Record, Disk, Broken, Memory}
 use Rattle.satp_keeper.proofs.ClearLemmas.{cut, seen_cut}
-use Rattle.satp_keeper.proofs.FoundCalls.{events_some}
 
 -- ---- the events that were made are a cut of the founding's
 
@@ -34,96 +33,31 @@ made_events whole = Cut Ledger 0 ∷ (open_events Ledger [] 0 ++ stored_events [
 
 -- some of the founding's events were made
 abbrev Begins : List (List ℕ) → Option Told → Option Told → Type 0
-Begins whole old new = (calls : ℕ) × (events : List Event) × IsCut Ledger (made_events whole) events × (new ≡ option_map (made calls events) old)
+Begins whole old new = (events : List Event) × IsCut (made_events whole) events × GrowsBy events old new
 
 events_are : (whole : List (List ℕ)) → events_in (found_calls whole) ≡ made_events whole
-events_are whole = ap (λ (l : List Event). Cut Ledger 0 ∷ (open_events Ledger [] 0 ++ l)) (events_some (stored_events [] whole))
-
-events_front : (calls : List (Option Event)) (n : ℕ) → (m : ℕ) × (events_in (take n calls) ≡ take m (events_in calls))
-events_front [] zero = (0, refl)
-events_front [] (suc n) = (0, refl)
-events_front (c ∷ calls) zero = (0, refl)
-events_front (None ∷ calls) (suc n) = events_front calls n
-events_front (Some e ∷ calls) (suc n) = let r = events_front calls n in (suc r.0, ap (λ (l : List Event). e ∷ l) r.1)
-
-event_at : (calls : List (Option Event)) (n : ℕ) (e : Event) → slice_get calls n ≡ Some (Some e) → (m : ℕ) × (events_in (take n calls) ≡ take m (events_in calls)) × (slice_get (events_in calls) m ≡ Some e)
-event_at [] n e at = absurd cc
-event_at (None ∷ calls) zero e at = absurd cc
-event_at (Some x ∷ calls) zero e at = (0, refl, let h = at in cc)
-event_at (None ∷ calls) (suc n) e at = event_at calls n e at
-event_at (Some x ∷ calls) (suc n) e at = let r = event_at calls n e at in (suc r.0, ap (λ (l : List Event). x ∷ l) r.1, r.2)
-
-some_same : {x y : Event} → Some x ≡ Some y → x ≡ y
-some_same e = cc
-
-stored_changes : (before qs : List (List ℕ)) (n : ℕ) (e : Event) → slice_get (stored_events before qs) n ≡ Some e → IsChangeOf Ledger e
-stored_changes before [] n e at = absurd cc
-stored_changes before (q ∷ qs) zero e at = subst (IsChangeOf Ledger) (some_same at) refl
-stored_changes before (q ∷ qs) (suc zero) e at = subst (IsChangeOf Ledger) (some_same at) refl
-stored_changes before (q ∷ qs) (suc (suc zero)) e at = subst (IsChangeOf Ledger) (some_same at) refl
-stored_changes before (q ∷ qs) (suc (suc (suc zero))) e at = subst (IsChangeOf Ledger) (some_same at) refl
-stored_changes before (q ∷ qs) (suc (suc (suc (suc n)))) e at = stored_changes (before ++ q ∷ []) qs n e at
-
-found_changes : (whole : List (List ℕ)) (n : ℕ) (e : Event) → slice_get (made_events whole) n ≡ Some e → IsChangeOf Ledger e
-found_changes whole zero e at = subst (IsChangeOf Ledger) (some_same at) refl
-found_changes whole (suc zero) e at = subst (IsChangeOf Ledger) (some_same at) refl
-found_changes whole (suc (suc zero)) e at = subst (IsChangeOf Ledger) (some_same at) refl
-found_changes whole (suc (suc (suc zero))) e at = subst (IsChangeOf Ledger) (some_same at) refl
-found_changes whole (suc (suc (suc (suc n)))) e at = stored_changes [] whole n e at
-
--- the events of a failed call behind the ones before it
-failed_call : (whole : List Event) (m : ℕ) (e : Event) (es : List Event) → slice_get whole m ≡ Some e → IsChangeOf Ledger e → IsFailure Ledger e es → IsCut Ledger whole (take m whole ++ es)
-failed_call whole m e es at change (inl none) = (m, inl (ap (λ (l : List Event). take m whole ++ l) none ∙ append-nil (take m whole)))
-failed_call whole m e es at change (inr (inl one)) = (m + 1, inl (ap (λ (l : List Event). take m whole ++ l) one ∙ sym (take_more m whole e at)))
-failed_call whole m e es at change (inr (inr (bytes, two))) =
-    let more = take_more m whole e at in (
-      m + 1,
-      inr (
-        bytes,
-        subst (EndsInChange Ledger) (sym more) (ends_behind Ledger (take m whole) (e ∷ []) change),
-        ap (λ (l : List Event). take m whole ++ l) two ∙ sym (append_assoc (take m whole) (e ∷ []) (Left Ledger bytes ∷ [])) ∙ ap (λ (l : List Event). l ++ Left Ledger bytes ∷ []) (sym more),
-      ),
-    )
+events_are whole = ap (λ (l : List Event). Cut Ledger 0 ∷ (open_events Ledger [] 0 ++ l)) (events_of_calls (stored_events [] whole))
 
 module _ (whole : List (List ℕ)) (old new : Option Told) where
   front_begins : (n : ℕ) → Makes (take n (found_calls whole)) old new → Begins whole old new
-  front_begins n makes = let r = events_front (found_calls whole) n in (length (take n (found_calls whole)), events_in (take n (found_calls whole)), (r.0, inl (r.1 ∙ ap (take r.0) (events_are whole))), makes)
+  front_begins n makes =
+      let calls = take n (found_calls whole) in
+      let r = events_prefix n (found_calls whole) in
+      (events_in calls, (r.0, inl (r.1 ∙ ap (take r.0) (events_are whole))), made_grows (length calls) (events_in calls) old new makes)
 
-  fails_begin : FailsWithin (found_calls whole) old new → Begins whole old new
-  fails_begin (n, None, at, (mid, makes, fails)) =
-      let r = events_front (found_calls whole) n in
-      let es = events_in (take n (found_calls whole)) in
-      let size = length (take n (found_calls whole)) in
-      (size + 1, es ++ [], (r.0, inl (append-nil es ∙ r.1 ∙ ap (take r.0) (events_are whole))), fails ∙ ap (option_map (made 1 [])) makes ∙ made-made size 1 es [] old)
-  fails_begin (n, Some e, at, (mid, makes, (fs, failure, told))) =
-      let r = event_at (found_calls whole) n e at in
-      let es = events_in (take n (found_calls whole)) in
-      let size = length (take n (found_calls whole)) in
-      let is : es ≡ take r.0 (made_events whole) = r.1 ∙ ap (take r.0) (events_are whole) in
-      let there : slice_get (made_events whole) r.0 ≡ Some e = ap (λ (l : List Event). slice_get l r.0) (sym (events_are whole)) ∙ r.2 in
-      let one = failed_call (made_events whole) r.0 e fs there (found_changes whole r.0 e there) failure in
-      (size + 1, es ++ fs, subst (λ (l : List Event). IsCut Ledger (made_events whole) (l ++ fs)) (sym is) one, told ∙ ap (option_map (made 1 fs)) makes ∙ made-made size 1 es fs old)
+  fails_begin : FailsAmong (found_calls whole) old new → Begins whole old new
+  fails_begin fails = let r = among_cut (found_calls whole) old new fails in (r.0, subst (λ (l : List Event). IsCut l r.0) (events_are whole) r.1, r.2)
 
   none_begins : new ≡ old → Begins whole old new
-  none_begins is = (0, [], (0, inl refl), is ∙ sym (made_none old))
+  none_begins is = ([], (0, inl refl), made_grows 0 [] old new (is ∙ sym (made_none old)))
 
 -- ---- what stands at each of them
-
-none_opened : (longer : List (List ℕ)) → StandsOpened [] longer → ⊥
-none_opened longer h = let n = ap length h.4.bytes ∙ length-append (records h.0) (h.1 ∷ h.2) in omega (arith, n)
-
-none_mended : (read image : List ℕ) → read ≡ [] → IsInMend read [] image → Stands image []
-none_mended read image e (inl h) = h
-none_mended read image e (inr (longer, stands, h)) = absurd (none_opened longer (subst (λ l. StandsOpened l longer) e stands))
-
-keeps_before : (t : Trail) (es : List Event) → KeepsModel (extended t es) → KeepsModel t
-keeps_before t es keeps = subst KeepsModel (extended_none t) (keeps_front t es 0 keeps)
 
 empty_stands : (t : Trail) → Stands (seen (extended t cut) Ledger) []
 empty_stands t = subst (λ (l : List ℕ). Stands l []) (sym (seen_cut t)) (inl (omega arith, refl))
 
 -- behind a cut that isn't synced an image is one that the cut leaves
-cut_begins : (t : Trail) (events : List Event) → IsCut Ledger cut events → KeepsModel (extended t events) → (image : List ℕ) → IsImage (extended t events) Ledger image → IsImage (extended t cut) Ledger image
+cut_begins : (t : Trail) (events : List Event) → IsCut cut events → KeepsModel (extended t events) → (image : List ℕ) → IsImage (extended t events) Ledger image → IsImage (extended t cut) Ledger image
 cut_begins t events is keeps image here =
     let split = keeps_split Ledger (settled (t.start Ledger)) t.events events (keeps Ledger) in
     let at = cut_leaves Ledger cut (standing t Ledger) events is split.1 image (subst (λ (s : Standing). Leaves s image) (fold-append (next Ledger) (settled (t.start Ledger)) t.events events) here) in
@@ -136,16 +70,27 @@ cut_begins t events is keeps image here =
     states zero leaves = record { no_shorter = omega arith; no_longer = omega (arith, leaves.no_longer); kept = λ k lt outside. absurd (omega (arith, lt)) }
     states (suc n) leaves = subst (λ (l : List Event). Leaves (fold (next Ledger) (standing t Ledger) (Cut Ledger 0 ∷ l)) image) (take_nil n) leaves
 
--- while the journal is opened behind the cut it has no payload
-opening_stands : (t : Trail) (events more : List Event) → events ≡ Cut Ledger 0 ∷ Synced Ledger ∷ more → IsCut Ledger (open_events Ledger [] 0) (Synced Ledger ∷ more) → KeepsModel (extended t events) → (image : List ℕ) → IsImage (extended t events) Ledger image → Stands image []
-opening_stands t events more is opens keeps image here =
-    let t' = extended t cut in
-    let there : extended t events ≡ extended t' (Synced Ledger ∷ more) = ap (extended t) is ∙ sym (extended_twice t cut (Synced Ledger ∷ more)) in
-    none_mended (seen t' Ledger) image (seen_cut t)
-    (open_leaves t' Ledger [] more (empty_stands t) (inl (let n = ap length (seen_cut t) in omega (arith, n))) (subst (λ (l : List ℕ). IsCut Ledger (open_events Ledger l 0) (Synced Ledger ∷ more)) (sym (seen_cut t)) opens)
-    (subst KeepsModel there keeps) image (subst (λ (x : Trail). IsImage x Ledger image) there here))
+-- while the journal is opened after the cut it has no payload
+opening_stands : (t : Trail) (events more : List Event) → events ≡ Cut Ledger 0 ∷ Synced Ledger ∷ more → IsCut (open_events Ledger [] 0) (Synced Ledger ∷ more) → KeepsModel (extended t events) → (image : List ℕ) → IsImage (extended t events) Ledger image → Stands image []
+opening_stands t events more is opens keeps image here = inl (open_stays_short t' Ledger [] more opening (omega (arith, none)) image (subst (λ (x : Trail). IsImage x Ledger image) there here), refl)
+  where
+    t' : Trail
+    t' = extended t cut
 
--- behind whole appends the payloads so far are at rest
+    there : extended t events ≡ extended t' (Synced Ledger ∷ more)
+    there = ap (extended t) is ∙ sym (extended_twice t cut (Synced Ledger ∷ more))
+
+    none : length (seen t' Ledger) ≡ 0
+    none = ap length (seen_cut t)
+
+    opening : IsOpening t' Ledger [] more
+    opening = record {
+      reads = empty_stands t;
+      cut = subst (λ (l : List ℕ). IsCut (open_events Ledger l 0) (Synced Ledger ∷ more)) (sym (seen_cut t)) opens;
+      keeps = subst KeepsModel there keeps;
+    }
+
+-- after whole appends the payloads so far are at rest
 stored_rests : (t : Trail) (before qs : List (List ℕ)) → RestsAt t Ledger before → AllByRecursion IsPayload qs → KeepsModel (extended t (stored_events before qs)) → RestsAt (extended t (stored_events before qs)) Ledger (before ++ qs)
 stored_rests t before [] rests all keeps = subst (λ (x : Trail). RestsAt x Ledger (before ++ [])) (sym (extended_none t)) (subst (RestsAt t Ledger) (sym (append-nil before)) rests)
 stored_rests t before (q ∷ qs) rests all keeps =
@@ -181,15 +126,15 @@ IsFront whole image = (n : ℕ) × Stands image (take n whole)
 front_of : (whole before qs : List (List ℕ)) (image : List ℕ) → whole ≡ before ++ qs → Stands image before → IsFront whole image
 front_of whole before qs image list stands = (length before, subst (Stands image) (sym (ap (take (length before)) list ∙ take-append_seam before qs)) stands)
 
-stored_front : (whole : List (List ℕ)) (t : Trail) (before qs : List (List ℕ)) (fs : List Event) → whole ≡ before ++ qs → RestsAt t Ledger before → AllByRecursion IsPayload qs → IsCut Ledger (stored_events before qs) fs → KeepsModel (extended t fs)
+stored_front : (whole : List (List ℕ)) (t : Trail) (before qs : List (List ℕ)) (fs : List Event) → whole ≡ before ++ qs → RestsAt t Ledger before → AllByRecursion IsPayload qs → IsCut (stored_events before qs) fs → KeepsModel (extended t fs)
     → (image : List ℕ) → IsImage (extended t fs) Ledger image → IsFront whole image
 stored_front whole t before [] fs list rests all part keeps image here = front_of whole before [] image list (rest_stands before image (rests image (subst (λ (x : Trail). IsImage x Ledger image) (ap (extended t) (none part) ∙ extended_none t) here)))
   where
-    none : IsCut Ledger [] fs → fs ≡ []
+    none : IsCut [] fs → fs ≡ []
     none (n, inl is) = is ∙ take_nil n
-    none (n, inr (bytes, change, is)) = absurd (subst (EndsInChange Ledger) (take_nil n) change)
+    none (n, inr (area, bytes, change, is)) = absurd (let h = ap last_area (sym (take_nil n)) ∙ change in cc)
 stored_front whole t before (q ∷ qs) fs list rests all part keeps image here =
-    ⊎_elim within (beyond (λ gs part' keeps' here'. stored_front whole (extended t es) (before ++ q ∷ []) qs gs longer (append_ends t Ledger before q all.0 rests (keeps_before t fs keeps)) all.1 part' keeps' image here')) (cut_append Ledger es (stored_events (before ++ q ∷ []) qs) fs part)
+    ⊎_elim within (beyond (λ gs part' keeps' here'. stored_front whole (extended t es) (before ++ q ∷ []) qs gs longer (append_ends t Ledger before q all.0 rests (keeps_before t fs keeps)) all.1 part' keeps' image here')) (cut_append es (stored_events (before ++ q ∷ []) qs) fs part)
   where
     es : List Event
     es = append_events Ledger (length (records before)) q
@@ -197,52 +142,52 @@ stored_front whole t before (q ∷ qs) fs list rests all part keeps image here =
     longer : whole ≡ (before ++ q ∷ []) ++ qs
     longer = list ∙ sym (append_assoc before (q ∷ []) qs)
 
-    within : IsCut Ledger es fs → IsFront whole image
-    within one = ⊎_elim (front_of whole before (q ∷ qs) image list) (front_of whole (before ++ q ∷ []) qs image longer) (append_leaves t Ledger before q fs all.0 rests one keeps image here).list
+    within : IsCut es fs → IsFront whole image
+    within one = ⊎_elim (front_of whole before (q ∷ qs) image list) (front_of whole (before ++ q ∷ []) qs image longer) (either_stands before q image all.0 (append_leaves t Ledger before q fs all.0 rests one keeps image here))
 
-    beyond : ((gs : List Event) → IsCut Ledger (stored_events (before ++ q ∷ []) qs) gs → KeepsModel (extended (extended t es) gs) → IsImage (extended (extended t es) gs) Ledger image → IsFront whole image)
-        → (gs : List Event) × IsCut Ledger (stored_events (before ++ q ∷ []) qs) gs × (fs ≡ es ++ gs) → IsFront whole image
+    beyond : ((gs : List Event) → IsCut (stored_events (before ++ q ∷ []) qs) gs → KeepsModel (extended (extended t es) gs) → IsImage (extended (extended t es) gs) Ledger image → IsFront whole image)
+        → (gs : List Event) × IsCut (stored_events (before ++ q ∷ []) qs) gs × (fs ≡ es ++ gs) → IsFront whole image
     beyond more (gs, later, is) =
         let there : extended t fs ≡ extended (extended t es) gs = ap (extended t) is ∙ sym (extended_twice t es gs) in
         more gs later (subst KeepsModel there keeps) (subst (λ (x : Trail). IsImage x Ledger image) there here)
 
 -- a cut that has the sync behind the area's cut is no cut of that alone
-cut_alone : (events more : List Event) → events ≡ Cut Ledger 0 ∷ Synced Ledger ∷ more → IsCut Ledger cut events → ⊥
+cut_alone : (events more : List Event) → events ≡ Cut Ledger 0 ∷ Synced Ledger ∷ more → IsCut cut events → ⊥
 cut_alone events more shape (zero, inl is) = let h = sym shape ∙ is in cc
 cut_alone events more shape (suc n, inl is) = let h = sym shape ∙ is ∙ ap (λ (l : List Event). Cut Ledger 0 ∷ l) (take_nil n) in cc
-cut_alone events more shape (zero, inr (bytes, change, is)) = absurd change
-cut_alone events more shape (suc n, inr (bytes, change, is)) = let h = sym shape ∙ is ∙ ap (λ (l : List Event). Cut Ledger 0 ∷ l ++ Left Ledger bytes ∷ []) (take_nil n) in cc
+cut_alone events more shape (zero, inr (area, bytes, change, is)) = absurd cc
+cut_alone events more shape (suc n, inr (area, bytes, change, is)) = let h = sym shape ∙ is ∙ ap (λ (l : List Event). Cut Ledger 0 ∷ l ++ Left area bytes ∷ []) (take_nil n) in cc
 
 behind_cut : (xs ys : List Event) → Cut Ledger 0 ∷ xs ≡ cut ++ ys → ys ≡ xs
 behind_cut xs ys is = let h = is in cc
 
-found_front : (whole : List (List ℕ)) (t : Trail) (events more : List Event) → AllByRecursion IsPayload whole → events ≡ Cut Ledger 0 ∷ Synced Ledger ∷ more → IsCut Ledger (made_events whole) events → KeepsModel (extended t events)
+found_front : (whole : List (List ℕ)) (t : Trail) (events more : List Event) → AllByRecursion IsPayload whole → events ≡ Cut Ledger 0 ∷ Synced Ledger ∷ more → IsCut (made_events whole) events → KeepsModel (extended t events)
     → (image : List ℕ) → IsImage (extended t events) Ledger image → IsFront whole image
-found_front whole t events more all shape part keeps image here = ⊎_elim within beyond (cut_append Ledger (made_events []) (stored_events [] whole) events part)
+found_front whole t events more all shape part keeps image here = ⊎_elim within beyond (cut_append (made_events []) (stored_events [] whole) events part)
   where
     opening : List Event
     opening = open_events Ledger [] 0
 
-    opened : (fs : List Event) × IsCut Ledger opening fs × (events ≡ cut ++ fs) → IsFront whole image
-    opened (fs, is, e) = front_of whole [] whole image refl (opening_stands t events more shape (subst (IsCut Ledger opening) (behind_cut (Synced Ledger ∷ more) fs (sym shape ∙ e)) is) keeps image here)
+    opened : (fs : List Event) × IsCut opening fs × (events ≡ cut ++ fs) → IsFront whole image
+    opened (fs, is, e) = front_of whole [] whole image refl (opening_stands t events more shape (subst (IsCut opening) (behind_cut (Synced Ledger ∷ more) fs (sym shape ∙ e)) is) keeps image here)
 
-    within : IsCut Ledger (made_events []) events → IsFront whole image
-    within is = ⊎_elim (λ alone. absurd (cut_alone events more shape alone)) opened (cut_append Ledger cut opening events is)
+    within : IsCut (made_events []) events → IsFront whole image
+    within is = ⊎_elim (λ alone. absurd (cut_alone events more shape alone)) opened (cut_append cut opening events is)
 
-    beyond : (fs : List Event) × IsCut Ledger (stored_events [] whole) fs × (events ≡ made_events [] ++ fs) → IsFront whole image
+    beyond : (fs : List Event) × IsCut (stored_events [] whole) fs × (events ≡ made_events [] ++ fs) → IsFront whole image
     beyond (fs, is, e) =
         let t' = extended t (made_events []) in
         let there : extended t events ≡ extended t' fs = ap (extended t) e ∙ sym (extended_twice t (made_events []) fs) in
         let keeps' = subst KeepsModel there keeps in
         stored_front whole t' [] whole fs refl (found_rests t [] tt (keeps_before t' fs keeps')) all is keeps' image (subst (λ (x : Trail). IsImage x Ledger image) there here)
 
-in_founding : (whole : List (List ℕ)) (t : Trail) (events : List Event) (image : List ℕ) → AllByRecursion IsPayload whole → IsCut Ledger (made_events whole) events → KeepsModel (extended t events) → IsImage (extended t events) Ledger image
+in_founding : (whole : List (List ℕ)) (t : Trail) (events : List Event) (image : List ℕ) → AllByRecursion IsPayload whole → IsCut (made_events whole) events → KeepsModel (extended t events) → IsImage (extended t events) Ledger image
     → IsInFounding whole t events image
 in_founding whole t events image all is keeps here = record {
-  among = subst (λ (l : List Event). IsCut Ledger l events) (sym (events_are whole)) is;
+  among = subst (λ (l : List Event). IsCut l events) (sym (events_are whole)) is;
   before = λ none. subst (λ (x : Trail). IsImage x Ledger image) (ap (extended t) none ∙ extended_none t) here;
   cut = λ part. cut_begins t events part keeps image here;
-  front = λ more shape. found_front whole t events more all shape is keeps image here;
+  prefix = λ more shape. found_front whole t events more all shape is keeps image here;
   opening = λ more shape opens. opening_stands t events more shape opens keeps image here;
   storing = λ done q rest more list at part.
       let shape : events ≡ made_events done ++ more = at ∙ ap (λ (l : List Event). l ++ more) (events_are done) in
@@ -262,15 +207,17 @@ module _ (whole : List (List ℕ)) (all : AllByRecursion IsPayload whole) where
   stops_at : (old new : Option Told) → Keeps new → Begins whole old new → FoundStops whole old new
   stops_at None new keeps begins = tt
   stops_at (Some t) None keeps begins = tt
-  stops_at (Some t) (Some u) keeps (calls, events, part, is) =
-      let e = trail_is t u calls events is in (
+  stops_at (Some t) (Some u) keeps (events, part, is) =
+      let e = trail_is t u events is in (
         events,
         e,
-        λ n image here. in_founding whole t.trail (take n events) image all (cut_front Ledger (made_events whole) events part n) (keeps_front t.trail events n (subst KeepsModel e (keeps u refl))) here,
+        λ n image here. in_founding whole t.trail (take n events) image all (cut_front (made_events whole) events part n) (keeps_front t.trail events n (subst KeepsModel e (keeps u refl))) here,
       )
 
   pub founded_stops : (old new : Option Told) → Keeps new → Makes (found_calls whole) old new → FoundStops whole old new
-  founded_stops old new keeps makes = stops_at old new keeps (length (found_calls whole), events_in (found_calls whole), (length (made_events whole), inl (events_are whole ∙ sym (take_all (length (made_events whole)) (made_events whole) (omega arith)))), makes)
+  founded_stops old new keeps makes =
+      let calls = found_calls whole in
+      stops_at old new keeps (events_in calls, subst (λ (l : List Event). IsCut l (events_in calls)) (events_are whole) (cut_self (events_in calls)), made_grows (length calls) (events_in calls) old new makes)
 
   pub unfounded_stops : (old new : Option Told) (fault : KeeperFault) → Keeps new → UnfoundedBy whole old new fault → FoundStops whole old new
   unfounded_stops old new Disk keeps is = stops_at old new keeps (fails_begin whole old new is)

@@ -1,6 +1,6 @@
--- A keeper behind an operation: what it keeps, and what it tells as a ledger.
-use Rattle.std.proofs.Common.{◌≡◌, ◌≢◌, ℕ, ◌↔◌, Bool, true, false, List, [], ◌∷◌, Option, Some, None, Result, Ok, Err, IsTrue, refl, ap, subst, sym, ◌∙◌, inl, inr}
-use Rattle.std.specs.Prelude.{IfSome, if◌then◌else◌}
+-- A keeper after an operation: what it keeps, and what it tells as a ledger.
+use Rattle.std.proofs.Common.{◌≡◌, ℕ, ◌↔◌, Bool, true, false, List, [], ◌∷◌, Option, Some, None, Result, Ok, Err, IsTrue, refl, ap, subst, sym, ◌∙◌, inl, inr, ⊎_elim}
+use Rattle.std.specs.Prelude.{if◌then◌else◌}
 use Rattle.satp_base.specs.Acts.{ActsOn, Asks, MayAdd, MayRefuse, operation_events}
 use Rattle.satp_base.specs.declared.area.Area.TheVariants.{Ledger}
 use Rattle.satp_base.specs.declared.area.Event.{Event}
@@ -9,15 +9,13 @@ use Rattle.satp_base.specs.declared.ledger.ActFault.{ActFault}
 use Rattle.satp_base.specs.declared.ledger.ActFault.TheVariants as act
 use Rattle.satp_base.specs.declared.ledger.Answer.{Answer}
 use Rattle.satp_base.specs.declared.ledger.Answer.TheVariants.{Done, NoFunds, UnknownAsset, Capped, Taken}
-use Rattle.satp_base.specs.declared.ledger.Entry.{Entry}
 use Rattle.satp_base.specs.declared.ledger.LedgerCall.TheVariants.{Act}
 use Rattle.satp_base.specs.declared.ledger.LedgerKind.{LedgerKind}
 use Rattle.satp_base.specs.declared.ledger.LedgerOp.{LedgerOp}
-use Rattle.satp_base.specs.declared.ledger.LedgerOp.TheVariants.{Lock, Mint}
 use Rattle.satp_base.specs.declared.message.Terms.{Terms}
 use Rattle.satp_base.specs.declared.session.SessionId.{SessionId}
 use Rattle.satp_base.specs.Calls.{Told}
-use Rattle.satp_base.specs.LedgerRule.{LedgerRule, RuleOn, operation}
+use Rattle.satp_base.specs.LedgerRule.{LedgerRule, operation}
 use Rattle.satp_base.specs.Money.{Book}
 use Rattle.satp_base.proofs.RuleLemmas.{order-may, rule-gives}
 use Rattle.satp_journal.specs.State.{Held}
@@ -63,7 +61,7 @@ module _ (op : LedgerOp) (session : SessionId) (terms : Terms) (b c : Book) (old
   pub whole_ok : (answer : Answer) → Answers (Ok answer) → new.broken ≡ false
   whole_ok answer is = stores_broken (operation b op session terms).changes is.2 ∙ is.0
 
-  -- it is broken exactly behind a fault of the disk
+  -- it is broken exactly after a fault of the disk
   pub broken_by : (fault : KeeperFault) (disk : Bool) → Answers (Err fault) → old.broken ≡ false → IsTrue disk ↔ (fault ≡ Disk) → disk ≡ new.broken
   broken_by (OutOfOrder entry) true is whole by = absurd (let e = by.0 refl in cc)
   broken_by (OutOfOrder entry) false is whole by = sym (ap (λ (h : Held). h.broken) is.2.1 ∙ whole)
@@ -99,13 +97,8 @@ module _ (op : LedgerOp) (session : SessionId) (terms : Terms) (b c : Book) (old
 
   -- ---- what it tells
 
-  abbrev book : Bool → Book → Option Book
-  book broken x = if broken then None else Some x
-
-  abbrev TellsAct : Bool → Bool → Result Answer ActFault → Type 0
-  TellsAct was now result =
-      (events : List Event) × MayAdd (Acted op session terms) result events × IfSome (book was b) (λ x. ActsOn op session terms x result events (book now c))
-      × Asks (Act op session terms) events result None None
+  abbrev pub TellsAct : Result Answer ActFault → Type 0
+  TellsAct result = (events : List Event) × MayAdd (Acted op session terms) result events × ActsOn op session terms b result events (Some c) × Asks (Act op session terms) events result None None
 
   may_add : (answer : Answer) → LedgerRule b op session terms answer c → MayAdd (Acted op session terms) (Ok answer) (operation_events (operation b op session terms) op session terms)
   may_add answer rule = at answer (operation b op session terms).changes refl (done_where_changed b c op session terms answer rule)
@@ -123,50 +116,30 @@ module _ (op : LedgerOp) (session : SessionId) (terms : Terms) (b c : Book) (old
       at (Taken n) true e d = absurd (let bad = d (sym e) in cc)
       at (Taken n) false e d = refl
 
-  pub tells_ok : (was now : Bool) (answer : Answer) → was ≡ old.broken → now ≡ new.broken → Answers (Ok answer) → TellsAct was now (Ok answer)
-  tells_ok was now answer w n is =
-      let gives = rule-gives b op session terms answer c is.1 in
-      let o = operation b op session terms in (
-        operation_events o op session terms,
-        may_add answer is.1,
-        subst (λ (x : Bool). IfSome (book x b) (λ y. ActsOn op session terms y (Ok answer) (operation_events o op session terms) (book now c))) (sym (w ∙ is.0))
-            (subst (λ (x : Bool). ActsOn op session terms b (Ok answer) (operation_events o op session terms) (book x c)) (sym (n ∙ whole_ok answer is)) (gives.0, ap Some gives.1, refl)),
-        refl,
-      )
+  pub tells_ok : (answer : Answer) → Answers (Ok answer) → TellsAct (Ok answer)
+  tells_ok answer is =
+      let gives = rule-gives b op session terms answer c is.1 in (operation_events (operation b op session terms) op session terms, may_add answer is.1, (gives.0, ap Some gives.1, refl), refl)
 
-  tells_order : (was now : Bool) (entry : Entry) → was ≡ old.broken → now ≡ new.broken → Answers (Err (OutOfOrder entry)) → TellsAct was now (Err (act.OutOfOrder entry))
-  tells_order was now entry w n is = (
-    [],
-    refl,
-    subst (λ (x : Bool). IfSome (book x b) (λ y. ActsOn op session terms y (Err (act.OutOfOrder entry)) [] (book now c))) (sym (w ∙ is.0))
-        (subst (λ (x : Bool). ActsOn op session terms b (Err (act.OutOfOrder entry)) [] (book x c)) (sym (n ∙ ap (λ (h : Held). h.broken) is.2.1 ∙ is.0)) (is.1, ap Some is.2.0, refl)),
+  -- it failed, and had no effect
+  failed_by : c ≡ b → TellsAct (Err act.Failed)
+  failed_by same = ([], inr refl, inl (refl, ap Some same), inl refl)
+
+  failed_after : (operation b op session terms).changes ≡ true → c ≡ (operation b op session terms).after → TellsAct (Err act.Failed)
+  failed_after changes is = (
+    operation_events (operation b op session terms) op session terms,
+    inl (ap (λ (v : Bool). if v then Acted op session terms ∷ [] else []) changes),
+    inr (refl, ap Some is),
     inl refl,
   )
 
-  failed_by : (was now : Bool) → IfSome (book was b) (λ y. ActsOn op session terms y (Err act.Failed) [] (book now c)) → TellsAct was now (Err act.Failed)
-  failed_by was now is = ([], inr refl, is, inl refl)
-
-  tells_failed : (was now : Bool) (fault : KeeperFault) → was ≡ old.broken → now ≡ new.broken → ((entry : Entry) → fault ≢ OutOfOrder entry) → Answers (Err fault) → TellsAct was now (Err act.Failed)
-  tells_failed was now (OutOfOrder entry) w n other is = absurd (other entry refl)
-  tells_failed was now Memory w n other is = failed_by was now
-      (subst (λ (x : Bool). IfSome (book x b) (λ y. ActsOn op session terms y (Err act.Failed) [] (book now c))) (sym (w ∙ is.0))
-      (subst (λ (x : Bool). ActsOn op session terms b (Err act.Failed) [] (book x c)) (sym (n ∙ ap (λ (h : Held). h.broken) is.1.1 ∙ is.0)) (inl (refl, inr (ap Some is.1.0)))))
-  tells_failed was now Disk w n other is = failed_by was now
-      (subst (λ (x : Bool). IfSome (book x b) (λ y. ActsOn op session terms y (Err act.Failed) [] (book now c))) (sym (w ∙ is.0))
-      (subst (λ (x : Bool). ActsOn op session terms b (Err act.Failed) [] (book x c)) (sym (n ∙ ap (λ (h : Held). h.broken) is.2)) (inl (refl, inl refl))))
-  tells_failed was now Broken w n other is = failed_by was now (subst (λ (x : Bool). IfSome (book x b) (λ y. ActsOn op session terms y (Err act.Failed) [] (book now c))) (sym (w ∙ is.0)) tt)
-  tells_failed was now Empty w n other is = absurd is
-  tells_failed was now (Damaged at) w n other is = absurd is
-  tells_failed was now (Record at) w n other is = absurd is
-
-  pub tells_fault : (was now : Bool) (fault : KeeperFault) → was ≡ old.broken → now ≡ new.broken → Answers (Err fault) → TellsAct was now (Err (act_fault fault))
-  tells_fault was now (OutOfOrder entry) w n is = tells_order was now entry w n is
-  tells_fault was now Memory w n is = tells_failed was now Memory w n (λ entry e. let h = e in cc) is
-  tells_fault was now Disk w n is = tells_failed was now Disk w n (λ entry e. let h = e in cc) is
-  tells_fault was now Broken w n is = tells_failed was now Broken w n (λ entry e. let h = e in cc) is
-  tells_fault was now Empty w n is = absurd is
-  tells_fault was now (Damaged at) w n is = absurd is
-  tells_fault was now (Record at) w n is = absurd is
+  pub tells_fault : (fault : KeeperFault) → Answers (Err fault) → TellsAct (Err (act_fault fault))
+  tells_fault (OutOfOrder entry) is = ([], refl, (is.1, ap Some is.2.0, refl), inl refl)
+  tells_fault Memory is = failed_by is.1.0
+  tells_fault Disk is = ⊎_elim failed_by (failed_after is.1) is.4
+  tells_fault Broken is = failed_by is.1.0
+  tells_fault Empty is = absurd is
+  tells_fault (Damaged at) is = absurd is
+  tells_fault (Record at) is = absurd is
 
   -- the faults of the keeper are those that an operation may have
   pub fault_may : (fault : KeeperFault) → Answers (Err fault) → MayRefuse op (act_fault fault)

@@ -1,11 +1,11 @@
 -- What a founding of a kept ledger does to the disk, and what a stop leaves of it.
-use Rattle.std.specs.Prelude.{◌≡◌, ◌⊎◌, ℕ, List, [], ◌∷◌, ◌++◌, length, take, map, slice_get, Option, None, Some, IfSome, option_map, Err}
+use Rattle.std.specs.Prelude.{◌≡◌, ◌⊎◌, ℕ, List, [], ◌∷◌, ◌++◌, length, take, Option, None, Some, IfSome, Err}
 use Rattle.satp_base.specs.declared.amount.Amount.{Amount}
 use Rattle.satp_base.specs.declared.area.Area.TheVariants.{Ledger}
 use Rattle.satp_base.specs.declared.area.Event.{Event}
 use Rattle.satp_base.specs.declared.area.Event.TheVariants.{Cut, Synced, Wrote}
 use Rattle.satp_base.specs.declared.name.Name.{Name}
-use Rattle.satp_base.specs.Calls.{Told, made, Fails}
+use Rattle.satp_base.specs.Calls.{Told, FailsAmong, Makes, calls_of, events_in}
 use Rattle.satp_base.specs.Format.{Stands, IsAtRest, records}
 use Rattle.satp_base.specs.Laws.{IsInAppend}
 use Rattle.satp_base.specs.Segments.{IsCut, append_events, open_events}
@@ -20,7 +20,7 @@ use Rattle.satp_keeper.specs.declared.fault.KeeperFault.TheVariants.{OutOfOrder,
 
 -- ---- the calls
 
--- payloads are appended one after the other, behind those before
+-- payloads are appended one after the other, after those before
 abbrev pub stored_events : List (List ℕ) → List (List ℕ) → List Event
 stored_events before [] = []
 stored_events before (q ∷ qs) = append_events Ledger (length (records before)) q ++ stored_events (before ++ q ∷ []) qs
@@ -31,38 +31,19 @@ clear_calls = Some (Cut Ledger 0) ∷ Some (Synced Ledger) ∷ None ∷ None ∷
 
 -- one call for each event of the appends
 abbrev pub stored_calls : List (List ℕ) → List (Option Event)
-stored_calls whole = map Some (stored_events [] whole)
+stored_calls whole = calls_of (stored_events [] whole)
 
 -- all calls of a founding
 abbrev pub found_calls : List (List ℕ) → List (Option Event)
 found_calls whole = clear_calls ++ stored_calls whole
 
--- the events of these calls
-abbrev pub events_in : List (Option Event) → List Event
-events_in [] = []
-events_in (None ∷ calls) = events_in calls
-events_in (Some event ∷ calls) = event ∷ events_in calls
-
--- all of these calls succeeded
-abbrev pub Makes : List (Option Event) → Option Told → Option Told → Type 0
-Makes calls old new = new ≡ option_map (made (length calls) (events_in calls)) old
-
--- this call failed; one without an event is only counted
-abbrev pub FailsAt : Option Event → Option Told → Option Told → Type 0
-FailsAt None old new = new ≡ option_map (made 1 []) old
-FailsAt (Some event) old new = Fails Ledger event old new
-
--- the first n of these calls succeeded, and the next one failed
-abbrev pub FailsWithin : List (Option Event) → Option Told → Option Told → Type 0
-FailsWithin calls old new = (n : ℕ) × (call : Option Event) × (slice_get calls n ≡ Some call) × ((mid : Option Told) × Makes (take n calls) old mid × FailsAt call mid new)
-
 -- ---- the answers
 
 -- Why a ledger isn't founded, and which calls were made. Disk: some succeeded, and the next one failed.
--- Memory: no call was made; or the opening behind the cut found none, before its read or behind it; or none was found for the payloads, behind the opening. No payload is stored then.
+-- Memory: no call was made; or the opening after the cut found none, before its read or after it; or none was found for the payloads, after the opening. No payload is stored then.
 -- Damaged: an opening answers it, and the disk doesn't tell.
 abbrev pub UnfoundedBy : List (List ℕ) → Option Told → Option Told → KeeperFault → Type 0
-UnfoundedBy whole old new Disk = FailsWithin (found_calls whole) old new
+UnfoundedBy whole old new Disk = FailsAmong (found_calls whole) old new
 UnfoundedBy whole old new Memory = (new ≡ old) ⊎ Makes (take 3 clear_calls) old new ⊎ Makes (take 4 clear_calls) old new ⊎ Makes clear_calls old new
 UnfoundedBy whole old new (Damaged at) = (old ≡ None) × OpenAnswers Ledger old new (Err (journal.Damaged at))
 UnfoundedBy whole old new (OutOfOrder entry) = ⊥
@@ -76,16 +57,16 @@ UnfoundedBy whole old new Broken = ⊥
 abbrev pub found_events : List (List ℕ) → List Event
 found_events whole = events_in (found_calls whole)
 
--- At an event of a founding, where what has happened is a cut of its events. Until the area's cut: an image of before. Until the sync behind it: what the cut leaves of one.
--- From that sync on a front of the list: none, until the opening is whole; while a payload is appended, those before it, or these and it; between two appends those so far, at rest.
+-- At an event of a founding, where what has happened is a cut of its events. Until the area's cut: an image of before. Until the sync after it: what the cut leaves of one.
+-- From that sync on a prefix of the list: none, until the opening is whole; while a payload is appended, an image of that append; between two appends those so far, at rest.
 pub record IsInFounding (whole : List (List ℕ)) (t : Trail) (events : List Event) (image : List ℕ) : Type 0 where
-  pub among : IsCut Ledger (found_events whole) events
+  pub among : IsCut (found_events whole) events
   pub before : events ≡ [] → IsImage t Ledger image
-  pub cut : IsCut Ledger (Cut Ledger 0 ∷ []) events → IsImage (extended t (Cut Ledger 0 ∷ [])) Ledger image
-  pub front : (more : List Event) → events ≡ Cut Ledger 0 ∷ Synced Ledger ∷ more → (n : ℕ) × Stands image (take n whole)
-  pub opening : (more : List Event) → events ≡ Cut Ledger 0 ∷ Synced Ledger ∷ more → IsCut Ledger (open_events Ledger [] 0) (Synced Ledger ∷ more) → Stands image []
+  pub cut : IsCut (Cut Ledger 0 ∷ []) events → IsImage (extended t (Cut Ledger 0 ∷ [])) Ledger image
+  pub prefix : (more : List Event) → events ≡ Cut Ledger 0 ∷ Synced Ledger ∷ more → (n : ℕ) × Stands image (take n whole)
+  pub opening : (more : List Event) → events ≡ Cut Ledger 0 ∷ Synced Ledger ∷ more → IsCut (open_events Ledger [] 0) (Synced Ledger ∷ more) → Stands image []
   pub storing : (done : List (List ℕ)) (q : List ℕ) (rest : List (List ℕ)) (more : List Event) → whole ≡ done ++ q ∷ rest → events ≡ found_events done ++ more
-      → IsCut Ledger (append_events Ledger (length (records done)) q) more → IsInAppend done q image
+      → IsCut (append_events Ledger (length (records done)) q) more → IsInAppend done q image
   pub between : (done rest : List (List ℕ)) → whole ≡ done ++ rest → events ≡ found_events done → IsAtRest done image
 
 -- at each event of the founding

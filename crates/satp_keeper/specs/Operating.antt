@@ -1,5 +1,5 @@
 -- What an operation on a kept ledger answers, and what it leaves.
-use Rattle.std.specs.Prelude.{◌≡◌, ◌⊎◌, ℕ, Bool, true, false, List, [], ◌∷◌, ◌++◌, Option, option_map, Result, Ok, Err}
+use Rattle.std.specs.Prelude.{◌≡◌, ◌⊎◌, ℕ, Bool, true, false, List, [], ◌∷◌, ◌++◌, Option, Result, Ok, Err}
 use Rattle.satp_base.specs.declared.ledger.ActFault.{ActFault}
 use Rattle.satp_base.specs.declared.ledger.ActFault.TheVariants as act
 use Rattle.satp_base.specs.declared.ledger.Answer.{Answer}
@@ -7,19 +7,19 @@ use Rattle.satp_base.specs.declared.ledger.Entry.{Entry}
 use Rattle.satp_base.specs.declared.ledger.LedgerOp.{LedgerOp}
 use Rattle.satp_base.specs.declared.message.Terms.{Terms}
 use Rattle.satp_base.specs.declared.session.SessionId.{SessionId}
-use Rattle.satp_base.specs.Calls.{Told, made, risen, FailsAmong}
+use Rattle.satp_base.specs.Calls.{Told, FailsAmong, Makes, risen}
 use Rattle.satp_base.specs.LedgerRule.{IsOutOfOrder, LedgerRule, operation}
 use Rattle.satp_base.specs.Money.{Book}
-use Rattle.satp_journal.specs.Appending.{events_of}
+use Rattle.satp_journal.specs.Appending.{append_calls}
 use Rattle.satp_journal.specs.State.{Held}
 use Rattle.satp_records.specs.Formats.{payload_of}
 use Rattle.satp_records.specs.declared.stored.Stored.TheVariants as stored
 use Rattle.satp_keeper.specs.declared.fault.KeeperFault.{KeeperFault}
 use Rattle.satp_keeper.specs.declared.fault.KeeperFault.TheVariants.{OutOfOrder, Empty, Damaged, Record, Disk, Broken, Memory}
 
--- The four calls of one append, and its payload behind the others; or nothing.
+-- The four calls of one append, and its payload after the others; or nothing.
 abbrev pub Stores : Bool → List ℕ → Held → Held → Option Told → Option Told → Type 0
-Stores true q old new told_old told_new = (new ≡ record old { payloads = old.payloads ++ q ∷ [] }) × (told_new ≡ option_map (made 4 (events_of old q)) told_old)
+Stores true q old new told_old told_new = (new ≡ record old { payloads = old.payloads ++ q ∷ [] }) × Makes (append_calls old q) told_old told_new
 Stores false q old new told_old told_new = (new ≡ old) × (told_new ≡ told_old)
 
 -- nothing has changed
@@ -35,7 +35,7 @@ KeepAnswers op session terms b c old new told_old told_new (Err (OutOfOrder entr
 KeepAnswers op session terms b c old new told_old told_new (Err Memory) = (old.broken ≡ false) × IsUnchanged b c old new told_old told_new
 KeepAnswers op session terms b c old new told_old told_new (Err Disk) =
     (old.broken ≡ false) × ((operation b op session terms).changes ≡ true) × (new ≡ record old { broken = true })
-    × FailsAmong old.area (events_of old (payload_of (stored.Act op session terms))) told_old told_new × ((c ≡ b) ⊎ (c ≡ (operation b op session terms).after))
+    × FailsAmong (append_calls old (payload_of (stored.Act op session terms))) told_old told_new × ((c ≡ b) ⊎ (c ≡ (operation b op session terms).after))
 KeepAnswers op session terms b c old new told_old told_new (Err Broken) = (old.broken ≡ true) × IsUnchanged b c old new told_old told_new
 KeepAnswers op session terms b c old new told_old told_new (Err Empty) = ⊥
 KeepAnswers op session terms b c old new told_old told_new (Err (Damaged at)) = ⊥

@@ -1,8 +1,9 @@
 //! A new ledger on a disk.
 
-ghost use Rattle.std.specs.Prelude.{◌≡◌, ◌≤◌, ◌+◌, ◌∷◌, ◌++◌, [], false, length, IfErr, IfOk, OnErr, OnOk, IfSome, MatchResult};
+ghost use Rattle.std.specs.Prelude.{◌≡◌, ◌≢◌, ◌≤◌, ◌+◌, ◌∷◌, ◌++◌, [], false, length, IfErr, IfOk, OnErr, OnOk, IfSome, MatchResult};
 ghost use Rattle.std.specs.List.{AllByRecursion, sum_by};
 ghost use Rattle.satp_base.specs.Acts.{founded};
+ghost use Rattle.satp_base.specs.Calls.{FailsAmong, Makes};
 ghost use Rattle.satp_base.specs.Format.{IsPayload};
 ghost use Rattle.satp_base.specs.Genesis.{IsGenesis};
 ghost use Rattle.satp_base.specs.Streams.{HasCause, Rose};
@@ -11,7 +12,7 @@ ghost use Rattle.satp_journal.specs.Opening.{Rests};
 ghost use Rattle.satp_journal.specs.State.{Fits};
 ghost use Rattle.satp_records.specs.Formats.{IsFormed, payload_of};
 ghost use Rattle.satp_keeper.specs.Books.{Leaves, ledger_payloads};
-ghost use Rattle.satp_keeper.specs.Founding.{FailsWithin, Makes, UnfoundedBy, asset_payloads, clear_calls, found_calls, hold_payloads, stored_calls};
+ghost use Rattle.satp_keeper.specs.Founding.{UnfoundedBy, asset_payloads, clear_calls, found_calls, hold_payloads, stored_calls};
 
 use crate::fault::{KeeperFault, fault_of};
 use satp_base::{
@@ -107,8 +108,11 @@ fn open_empty<D: Disk>(alloc: Global, disk: &mut D) -> Result<Journal, KeeperFau
     ensures opened { IfOk result (λ journal. (journal.held.area ≡ Ledger) × (journal.held.broken ≡ false) × Fits journal.held (D.told disk.new) × Rests (D.told disk.new) journal.held × IfSome (D.told disk.new) (λ t. journal.held.payloads ≡ [])) }
     ensures answers { MatchResult result (λ journal. Makes clear_calls (D.told disk.old) (D.told disk.new)) (λ fault. UnfoundedBy [] (D.told disk.old) (D.told disk.new) fault) }
     ensures ledger { D.book disk.new ≡ D.book disk.old }
+    ensures beside { D.beside disk.old disk.new }
     ensures later { D.faults disk.old ≤ D.faults disk.new }
     ensures cause { IfErr result (λ fault. fault ≡ KeeperFault.Disk → Rose (D.faults disk.old) (D.faults disk.new)) }
+    ensures kept { OnOk result (D.faults disk.new ≡ D.faults disk.old) }
+    ensures still { IfErr result (λ fault. fault ≢ KeeperFault.Disk → D.faults disk.new ≡ D.faults disk.old) }
 {
     match disk.cut(Area::Ledger, 0) {
         Ok(()) => {}
@@ -132,8 +136,9 @@ fn append_all<D: Disk>(disk: &mut D, journal: &mut Journal, texts: &Texts) -> Re
     requires bytes { sum_by length texts.now ≤ journal.old.spare_bytes }
     ensures appended { OnOk result ((journal.new.held.area ≡ Ledger) × (journal.new.held.broken ≡ false) × Fits journal.new.held (D.told disk.new) × Rests (D.told disk.new) journal.new.held × IfSome (D.told disk.new) (λ t. journal.new.held.payloads ≡ texts.now)) }
     ensures ok { OnOk result (Makes (stored_calls texts.now) (D.told disk.old) (D.told disk.new)) }
-    ensures err { OnErr result (FailsWithin (stored_calls texts.now) (D.told disk.old) (D.told disk.new)) }
+    ensures err { OnErr result (FailsAmong (stored_calls texts.now) (D.told disk.old) (D.told disk.new)) }
     ensures ledger { D.book disk.new ≡ D.book disk.old }
+    ensures beside { D.beside disk.old disk.new }
     ensures cause { HasCause (D.faults disk.old) (D.faults disk.new) result }
 {
     for index in 0..texts.length() {
@@ -159,8 +164,11 @@ pub(crate) fn set_up<C: LedgerCore, D: Disk>(
     ensures leaves { IfOk result (λ x. IfSome (D.told disk.new) (λ t. Leaves kind x.1.held.payloads (C.book x.0))) }
     ensures answers { MatchResult result (λ x. Makes (found_calls (ledger_payloads kind genesis.now [])) (D.told disk.old) (D.told disk.new)) (λ fault. UnfoundedBy (ledger_payloads kind genesis.now []) (D.told disk.old) (D.told disk.new) fault) }
     ensures ledger { D.book disk.new ≡ D.book disk.old }
+    ensures beside { D.beside disk.old disk.new }
     ensures later { D.faults disk.old ≤ D.faults disk.new }
     ensures cause { IfErr result (λ fault. fault ≡ KeeperFault.Disk → Rose (D.faults disk.old) (D.faults disk.new)) }
+    ensures kept { OnOk result (D.faults disk.new ≡ D.faults disk.old) }
+    ensures still { IfErr result (λ fault. fault ≢ KeeperFault.Disk → D.faults disk.new ≡ D.faults disk.old) }
 {
     let core = match C::begin(alloc, genesis) {
         Ok(core) => core,

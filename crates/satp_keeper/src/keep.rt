@@ -1,6 +1,6 @@
 //! One operation on a ledger that is kept.
 
-ghost use Rattle.std.specs.Prelude.{◌≡◌, ◌≤◌, ◌↔◌, false, IfErr, IsTrue};
+ghost use Rattle.std.specs.Prelude.{◌≡◌, ◌≢◌, ◌≤◌, ◌↔◌, false, IfErr, OnOk, IsTrue};
 ghost use Rattle.satp_base.specs.Streams.{Rose};
 ghost use Rattle.satp_journal.specs.Appending.{AppendStops, RestsStill};
 ghost use Rattle.satp_journal.specs.State.{Fits};
@@ -59,8 +59,11 @@ pub(crate) fn keep<C: LedgerCore, D: Disk>(
     ensures rests { journal.new.held.broken ≡ false → RestsStill journal.old.held.area journal.old.held.payloads journal.new.held.payloads (D.told disk.old) (D.told disk.new) }
     ensures fits { journal.new.held.broken ≡ false → Fits journal.new.held (D.told disk.new) }
     ensures ledger { D.book disk.new ≡ D.book disk.old }
+    ensures beside { D.beside disk.old disk.new }
     ensures later { D.faults disk.old ≤ D.faults disk.new }
     ensures cause { IfErr result (λ fault. fault ≡ KeeperFault.Disk → Rose (D.faults disk.old) (D.faults disk.new)) }
+    ensures kept { OnOk result (D.faults disk.new ≡ D.faults disk.old) }
+    ensures still { IfErr result (λ fault. fault ≢ KeeperFault.Disk → D.faults disk.new ≡ D.faults disk.old) }
 {
     let payload = match encode(
         alloc,

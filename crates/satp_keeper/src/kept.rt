@@ -1,5 +1,6 @@
-ghost use Rattle.std.specs.Prelude.{◌≡◌, ◌≤◌, ◌+◌, Ok, Some, None, [], IfErr, IfOk, IfSome, MatchResult, IsTrue, ◌↔◌, false, if◌then◌else◌};
+ghost use Rattle.std.specs.Prelude.{◌≡◌, ◌≢◌, ◌≤◌, ◌+◌, Ok, Some, None, [], IfErr, IfOk, OnOk, IfSome, MatchResult, IsTrue, ◌↔◌, false, if◌then◌else◌};
 ghost use Rattle.satp_base.specs.Acts.{founded};
+ghost use Rattle.satp_base.specs.Calls.{Makes};
 ghost use Rattle.satp_base.specs.Streams.{HasCause, Rose};
 ghost use Rattle.satp_base.specs.declared.area.Area.TheVariants.{Ledger};
 ghost use Rattle.satp_journal.specs.Appending.{AppendStops, RestsStill};
@@ -8,7 +9,7 @@ ghost use Rattle.satp_journal.specs.State.{Fits};
 ghost use Rattle.satp_records.specs.Formats.{payload_of};
 ghost use Rattle.satp_records.specs.declared.stored.Stored.TheVariants as stored;
 ghost use Rattle.satp_keeper.specs.Books.{Leaves, ledger_payloads};
-ghost use Rattle.satp_keeper.specs.Founding.{FoundStops, Makes, UnfoundedBy, found_calls};
+ghost use Rattle.satp_keeper.specs.Founding.{FoundStops, UnfoundedBy, found_calls};
 ghost use Rattle.satp_keeper.specs.Opening.{UnopenedBy};
 ghost use Rattle.satp_keeper.specs.Operating.{KeepAnswers, act_fault, count_behind, faults_after, wants_after};
 
@@ -34,7 +35,7 @@ pub struct Unopened<D> {
 /// A ledger with a journal in the area `Ledger` of a disk.
 ///
 /// Every operation that changes an entry is stored by one append before it is answered.
-/// After `Disk` the ledger tells nothing until it is opened again; what that opening finds is what the failed operation did.
+/// After `Disk` every call on the ledger fails until it is opened again; what that opening finds is what the failed operation did.
 #[derive(Drop)]
 pub struct Kept<C: LedgerCore, D: Disk> {
     alloc: Global,
@@ -59,8 +60,11 @@ fn open_ledger<C: LedgerCore, D: Disk>(
         (λ fault. UnopenedBy kind (D.told disk.old) (D.told disk.new) fault) }
     ensures stops { OpenStops Ledger (D.told disk.old) (D.told disk.new) }
     ensures ledger { D.book disk.new ≡ D.book disk.old }
+    ensures beside { D.beside disk.old disk.new }
     ensures later { D.faults disk.old ≤ D.faults disk.new }
     ensures cause { IfErr result (λ fault. fault ≡ KeeperFault.Disk → Rose (D.faults disk.old) (D.faults disk.new)) }
+    ensures kept { OnOk result (D.faults disk.new ≡ D.faults disk.old) }
+    ensures still { IfErr result (λ fault. fault ≢ KeeperFault.Disk → D.faults disk.new ≡ D.faults disk.old) }
 {
     let journal = match Journal::open(alloc, disk, Area::Ledger) {
         Ok(journal) => journal,
@@ -90,9 +94,11 @@ impl<C: LedgerCore, D: Disk> Kept<C, D> {
             (λ k. FoundStops (ledger_payloads C.KIND genesis.now []) (D.told disk) (D.told k.disk))
             (λ u. FoundStops (ledger_payloads C.KIND genesis.now []) (D.told disk) (D.told u.disk)) }
         ensures ledger { MatchResult result (λ k. D.book k.disk ≡ D.book disk) (λ u. D.book u.disk ≡ D.book disk) }
+        ensures beside { MatchResult result (λ k. D.beside disk k.disk) (λ u. D.beside disk u.disk) }
         ensures counts { IfOk result (λ k. (k.tally.faults ≡ 0) × (k.tally.wants ≡ 0)) }
         ensures later { MatchResult result (λ k. D.faults disk ≤ D.faults k.disk) (λ u. D.faults disk ≤ D.faults u.disk) }
         ensures cause { IfErr result (λ u. u.fault ≡ KeeperFault.Disk → Rose (D.faults disk) (D.faults u.disk)) }
+        ensures kept { MatchResult result (λ k. D.faults k.disk ≡ D.faults disk) (λ u. u.fault ≢ KeeperFault.Disk → D.faults u.disk ≡ D.faults disk) }
     {
         let mut disk = disk;
         match set_up(alloc, &mut disk, C::KIND, genesis) {
@@ -118,9 +124,11 @@ impl<C: LedgerCore, D: Disk> Kept<C, D> {
             (λ u. UnopenedBy C.KIND (D.told disk) (D.told u.disk) u.fault) }
         ensures stops { MatchResult result (λ k. OpenStops Ledger (D.told disk) (D.told k.disk)) (λ u. OpenStops Ledger (D.told disk) (D.told u.disk)) }
         ensures ledger { MatchResult result (λ k. D.book k.disk ≡ D.book disk) (λ u. D.book u.disk ≡ D.book disk) }
+        ensures beside { MatchResult result (λ k. D.beside disk k.disk) (λ u. D.beside disk u.disk) }
         ensures counts { IfOk result (λ k. (k.tally.faults ≡ 0) × (k.tally.wants ≡ 0)) }
         ensures later { MatchResult result (λ k. D.faults disk ≤ D.faults k.disk) (λ u. D.faults disk ≤ D.faults u.disk) }
         ensures cause { IfErr result (λ u. u.fault ≡ KeeperFault.Disk → Rose (D.faults disk) (D.faults u.disk)) }
+        ensures kept { MatchResult result (λ k. D.faults k.disk ≡ D.faults disk) (λ u. u.fault ≢ KeeperFault.Disk → D.faults u.disk ≡ D.faults disk) }
     {
         let mut disk = disk;
         match open_ledger(alloc, &mut disk, C::KIND) {
@@ -149,8 +157,11 @@ impl<C: LedgerCore, D: Disk> Kept<C, D> {
         ensures leaves { Leaves C.KIND self.old.journal.held.payloads (C.book self.old.core) → self.new.broken ≡ false → Leaves C.KIND self.new.journal.held.payloads (C.book self.new.core) }
         ensures tally { self.new.tally ≡ self.old.tally }
         ensures ledger { D.book self.new.disk ≡ D.book self.old.disk }
+        ensures beside { D.beside self.old.disk self.new.disk }
         ensures later { D.faults self.old.disk ≤ D.faults self.new.disk }
         ensures disk { IfErr result (λ fault. fault ≡ KeeperFault.Disk → Rose (D.faults self.old.disk) (D.faults self.new.disk)) }
+        ensures kept { OnOk result (D.faults self.new.disk ≡ D.faults self.old.disk) }
+        ensures still { IfErr result (λ fault. fault ≢ KeeperFault.Disk → D.faults self.new.disk ≡ D.faults self.old.disk) }
     {
         if self.broken {
             return Err(KeeperFault::Broken);
@@ -188,8 +199,11 @@ impl<C: LedgerCore, D: Disk> Kept<C, D> {
         ensures faults { self.new.tally.faults ≡ count_behind faults_after self.old.tally.faults result }
         ensures wants { self.new.tally.wants ≡ count_behind wants_after self.old.tally.wants result }
         ensures ledger { D.book self.new.disk ≡ D.book self.old.disk }
+        ensures beside { D.beside self.old.disk self.new.disk }
         ensures later { D.faults self.old.disk ≤ D.faults self.new.disk }
         ensures disk { IfErr result (λ fault. fault ≡ KeeperFault.Disk → Rose (D.faults self.old.disk) (D.faults self.new.disk)) }
+        ensures kept { OnOk result (D.faults self.new.disk ≡ D.faults self.old.disk) }
+        ensures still { IfErr result (λ fault. fault ≢ KeeperFault.Disk → D.faults self.new.disk ≡ D.faults self.old.disk) }
         ensures cause { HasCause (D.faults self.old.disk + self.old.tally.faults) (D.faults self.new.disk + self.new.tally.faults) result }
     {
         match self.operate(op, session, terms) {
@@ -245,11 +259,17 @@ impl<C: LedgerCore, D: Disk> Device for Kept<C, D> {
 
     ghost told = { λ k. None };
 
-    ghost book = { λ k. if k.broken then None else Some (C.book k.core) };
+    ghost book = { λ k. Some (C.book k.core) };
 
     ghost faults = { λ k. D.faults k.disk + k.tally.faults };
 
+    ghost beside = { λ a b. D.beside a.disk b.disk };
+
     ghost keeps_model = { λ k t is. untold_keeps t is };
+
+    ghost beside_same = { λ k. D.beside_same k.disk };
+
+    ghost beside_then = { λ a b c first then'. D.beside_then a.disk b.disk c.disk first then' };
 }
 
 impl<C: LedgerCore, D: Disk> Ledger for Kept<C, D> {
@@ -269,13 +289,14 @@ impl<C: LedgerCore, D: Disk> Ledger for Kept<C, D> {
         ensures answer { IfOk result (MayAnswer op) }
         ensures refused { IfErr result (MayRefuse op) }
         ensures told { (events : List Event) × MayAdd (Acted op session terms.now) result events
-            × IfSome (if self.old.broken then None else Some (C.book self.old.core)) (λ b. ActsOn op session terms.now b result events (if self.new.broken then None else Some (C.book self.new.core)))
+            × ActsOn op session terms.now (C.book self.old.core) result events (Some (C.book self.new.core))
             × Asks (Act op session terms.now) events result None None }
         ensures cause { HasCause (D.faults self.old.disk + self.old.tally.faults) (D.faults self.new.disk + self.new.tally.faults) result }
         ensures kept { (inner : Result Answer KeeperFault) × (result ≡ act_answer inner)
             × KeepAnswers op session terms.now (C.book self.old.core) (C.book self.new.core) self.old.journal.held self.new.journal.held (D.told self.old.disk) (D.told self.new.disk) inner
             × (self.new.tally.faults ≡ count_behind faults_after self.old.tally.faults inner) × (self.new.tally.wants ≡ count_behind wants_after self.old.tally.wants inner) }
         ensures ledger { D.book self.new.disk ≡ D.book self.old.disk }
+        ensures beside { D.beside self.old.disk self.new.disk }
     {
         match Kept::act(self, op, session, terms) {
             Ok(answer) => Ok(answer),

@@ -93,7 +93,7 @@ asked-adding call t0 t1 t2 events told more =
 module _ (op : LedgerOp) (s : SessionId) (t : Terms) (t0 t2 : Told) where
   same-book : (b0 b1 : Option Book) → b1 ≡ b0 → IfSome b0 (λ b. ActsOn op s t b (Err act.Failed) [] b1)
   same-book None b1 e = tt
-  same-book (Some b) b1 e = inl (refl, inr e)
+  same-book (Some b) b1 e = inl (refl, e)
 
   pub failed-act : (b0 b1 : Option Book) → b1 ≡ b0 → (Some t2 ≡ Some (asked (Act op s t) [] t0)) ⊎ (Some t2 ≡ Some (made 1 [] t0)) → ActTells op s t b0 (Err act.Failed) b1 t0 t2
   failed-act b0 b1 e asks = ([], inr refl, same-book b0 b1 e, asks)

@@ -10,3 +10,5 @@ pub mod Sites
 pub mod EntryCodes
 pub mod OneLedger
 pub mod Halting
+pub mod Following
+pub mod FollowingLaws

@@ -1,5 +1,5 @@
 -- How a call on a site in memory ends, and how its ledger agrees with the trail.
-use Rattle.std.specs.Prelude.{◌≡◌, ◌⊎◌, Bool, true, false, List, IfSome, if◌then◌else◌, Option, Some, None, Result, Ok, Err}
+use Rattle.std.specs.Prelude.{◌≡◌, ◌⊎◌, Bool, true, false, ◌||◌, not, List, IfSome, if◌then◌else◌, Option, Some, None, Result, Ok, Err}
 use Rattle.satp_base.specs.Ledgers.{Entries}
 use Rattle.satp_base.specs.Money.{Book}
 use Rattle.satp_base.specs.declared.ledger.ActFault.{ActFault}
@@ -37,18 +37,20 @@ same_kind Outputs Outputs = true
 same_kind _ _ = false
 
 -- A call on the ledger fails where it is to fail, where it doesn't fit the ledger that is there, and else only where no memory was found.
+abbrev pub LedgerFails : (refused fits : Bool) → Calling → Calling → Type 0
+LedgerFails refused fits old new =
+    ((refused ≡ true) × (new ≡ failed old))
+    ⊎ ((refused ≡ false) × (fits ≡ false) × (new ≡ failed old))
+    ⊎ (new ≡ wanting (if refused || not fits then failed old else succeeded old))
+
 abbrev pub LedgerEnds : {T E : Type 0} → (refused fits : Bool) → Calling → Calling → Result T E → Type 0
 LedgerEnds refused fits old new (Ok done) = (refused ≡ false) × (fits ≡ true) × (new ≡ succeeded old)
-LedgerEnds refused fits old new (Err fault) =
-    (((refused ≡ true) ⊎ (fits ≡ false)) × (new ≡ failed old))
-    ⊎ (new ≡ wanting (if refused then failed old else succeeded old))
+LedgerEnds refused fits old new (Err fault) = LedgerFails refused fits old new
 
 -- An operation out of order is a fault of its own.
 abbrev pub ActEnds : {T : Type 0} → (refused fits : Bool) → Calling → Calling → Result T ActFault → Type 0
 ActEnds refused fits old new (Ok answer) = (refused ≡ false) × (fits ≡ true) × (new ≡ succeeded old)
-ActEnds refused fits old new (Err Failed) =
-    (((refused ≡ true) ⊎ (fits ≡ false)) × (new ≡ failed old))
-    ⊎ (new ≡ wanting (if refused then failed old else succeeded old))
+ActEnds refused fits old new (Err Failed) = LedgerFails refused fits old new
 ActEnds refused fits old new (Err (OutOfOrder entry)) = (refused ≡ false) × (fits ≡ true) × (new ≡ failed old)
 
 -- ---- an operation

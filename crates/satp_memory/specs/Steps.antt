@@ -7,11 +7,12 @@ use Rattle.satp_base.specs.declared.area.Event.TheVariants.{Acted, Founded}
 use Rattle.satp_base.specs.LedgerAt.{ledger_at}
 use Rattle.satp_base.specs.Ledgers.{Entries}
 use Rattle.satp_base.specs.declared.ledger.LedgerCall.{LedgerCall}
+use Rattle.satp_base.specs.Streams.{Rose}
 use Rattle.satp_base.specs.Trail.{IsImage, IsOutside, Standing, Trail, extended, standing}
 use Rattle.satp_memory.specs.declared.disk.MemDisk.{MemDisk}
 use Rattle.satp_memory.specs.Areas.{bytes_in}
 use Rattle.satp_memory.specs.Disk.{trail_from}
-use Rattle.satp_base.specs.Calls.{Told}
+use Rattle.satp_base.specs.Calls.{Ask, Entering, Told, risen}
 use Rattle.satp_memory.specs.Calling.{begun, failed, is_due, is_refused, succeeded, wanting}
 use Rattle.satp_memory.specs.Stopping.{is_reached, pick_of}
 
@@ -24,11 +25,26 @@ trail_of disk = record (trail_from disk.start disk.events.items) { entries = ent
 
 -- all that a disk tells
 abbrev pub told_of : MemDisk → Told
-told_of disk = record { trail = trail_of disk; dirs = disk.dirs.items; calls = disk.calls.count; asks = disk.asks.items }
+told_of disk = record { trail = trail_of disk; dirs = disk.dirs.items; calls = disk.calls.count; last_failed = disk.calls.last_failed; asks = disk.asks.items }
+
+-- one call more, which neither failed nor did anything yet
+abbrev pub counted : Told → Told
+counted t = record t { calls = risen t.calls 1 }
+
+-- what is noted of a directory that was asked for, and of a call on the ledger
+abbrev pub entering : List ℕ → MemDisk → Bool → Entering
+entering dir old succeeded = record { dir = dir; before = old.calls.count; succeeded = succeeded }
+
+abbrev pub asking : LedgerCall → MemDisk → Bool → Ask
+asking call old succeeded = record { call = call; before = old.calls.count; succeeded = succeeded }
 
 -- with further events, and no further call
 abbrev pub adding : List Event → Told → Told
 adding events t = record t { trail = extended t.trail events }
+
+-- with the note of a call on the ledger
+abbrev pub noting : Ask → Told → Told
+noting ask t = record t { asks = t.asks ++ ask ∷ [] }
 
 -- the entries now
 abbrev pub entries_of : MemDisk → Entries
@@ -79,7 +95,7 @@ abbrev pub Ends : {T E : Type 0} → MemDisk → MemDisk → Result T E → Type
 Ends old new (Ok done) = (is_refused (is_stopped old) old.calls ≡ false) × (new.calls ≡ succeeded old.calls)
 Ends old new (Err fault) = (is_refused (is_stopped old) old.calls ≡ true) × (new.calls ≡ failed old.calls)
 
--- One that takes memory may fail too where none was found. Behind a stop it never looks for any.
+-- One that takes memory may fail too where none was found. After a stop it never looks for any.
 abbrev pub EndsOrWants : {T E : Type 0} → MemDisk → MemDisk → Result T E → Type 0
 EndsOrWants old new (Ok done) = (is_refused (is_stopped old) old.calls ≡ false) × (new.calls ≡ succeeded old.calls)
 EndsOrWants old new (Err fault) =
@@ -88,19 +104,20 @@ EndsOrWants old new (Err fault) =
 
 -- One that notes a directory always looks for memory. It is noted, also by a call that fails, unless none was found, which is counted.
 abbrev pub EntersOrWants : {T E : Type 0} → List ℕ → MemDisk → MemDisk → Result T E → Type 0
-EntersOrWants dir old new (Ok done) = (is_refused (is_stopped old) old.calls ≡ false) × (new.calls ≡ succeeded old.calls)
+EntersOrWants dir old new (Ok done) =
+    (is_refused (is_stopped old) old.calls ≡ false) × (new.calls ≡ succeeded old.calls) × (new.dirs.items ≡ old.dirs.items ++ entering dir old true ∷ [])
 EntersOrWants dir old new (Err fault) =
-    ((is_refused (is_stopped old) old.calls ≡ true) × (new.calls ≡ failed old.calls) × (new.dirs.items ≡ old.dirs.items ++ dir ∷ []))
+    ((is_refused (is_stopped old) old.calls ≡ true) × (new.calls ≡ failed old.calls) × (new.dirs.items ≡ old.dirs.items ++ entering dir old false ∷ []))
     ⊎ (new.calls ≡ wanting (begun (is_stopped old) old.calls))
 
 -- A call on the ledger is told by name, also one that fails, unless no memory was found, which is counted.
 abbrev pub Notes : {T E : Type 0} → LedgerCall → MemDisk → MemDisk → Result T E → Type 0
-Notes call old new (Ok done) = new.asks.items ≡ old.asks.items ++ call ∷ []
+Notes call old new (Ok done) = new.asks.items ≡ old.asks.items ++ asking call old true ∷ []
 Notes call old new (Err fault) =
-    (new.asks.items ≡ old.asks.items ++ call ∷ [])
-    ⊎ (new.calls ≡ wanting (begun (is_stopped old) old.calls))
+    (new.asks.items ≡ old.asks.items ++ asking call old false ∷ [])
+    ⊎ (Rose old.calls.wants new.calls.wants × (new.asks.items ≡ old.asks.items))
 
--- the events that a call adds: one where it succeeds, none behind a stop or where no memory was found, and else those of a named one
+-- the events that a call adds: one where it succeeds, none after a stop or where no memory was found, and else those of a named one
 abbrev pub Adds : {T E : Type 0} → Event → List Event → MemDisk → MemDisk → Result T E → Type 0
 Adds event named old new (Ok done) = new.events.items ≡ old.events.items ++ event ∷ []
 Adds event named old new (Err fault) =

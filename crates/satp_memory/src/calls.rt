@@ -1,4 +1,4 @@
-ghost use Rattle.std.specs.Prelude.{◌≡◌, ◌≤◌, true, OnOk, OnErr};
+ghost use Rattle.std.specs.Prelude.{◌≡◌, ◌≤◌, true, false, Some, OnOk, OnErr};
 ghost use Rattle.satp_base.specs.Calls.{risen};
 ghost use Rattle.satp_base.specs.Streams.{Rose};
 ghost use Rattle.satp_memory.specs.Calling.{begun, cleared, faulting, fresh, is_due, is_refused, naming, wanting};
@@ -14,6 +14,7 @@ pub struct Calls {
     count: u64,
     faults: u64,
     wants: u64,
+    last_failed: Option<u64>,
     named: Vec<u64>,
 }
 
@@ -22,7 +23,7 @@ impl Model for Calls {
 
     ghost Value = { Calling };
 
-    ghost view = { λ c. record { count = c.count; faults = c.faults; wants = c.wants; named = c.named.items } };
+    ghost view = { λ c. record { count = c.count; faults = c.faults; wants = c.wants; last_failed = c.last_failed; named = c.named.items } };
 }
 
 impl Calls {
@@ -35,6 +36,7 @@ impl Calls {
             count: 0,
             faults: 0,
             wants: 0,
+            last_failed: None,
             named: Vec::new(alloc),
         }
     }
@@ -55,18 +57,20 @@ impl Calls {
         self.named.clear();
     }
 
-    /// Counts a call, and answers whether it is to fail: behind a stop, or where it was named.
+    /// Counts a call, and answers whether it is to fail: after a stop, or where it was named.
     pub fn begin(&mut self, stopped: bool) -> bool
         ensures refused { result ≡ is_refused stopped self.old }
         ensures counted { self.new ≡ begun stopped self.old }
         ensures told { self.new.count ≡ risen self.old.count 1 }
+        ensures failed { result ≡ true → self.new.last_failed ≡ Some (risen self.old.count 1) }
         ensures rose { result ≡ true → Rose self.old.faults self.new.faults }
+        ensures kept { result ≡ false → self.new.faults ≡ self.old.faults }
         ensures later { self.old.faults ≤ self.new.faults }
     {
         let refused = stopped || self.is_due();
         self.count = self.count.saturating_add(1);
         if refused {
-            self.faults = self.faults.saturating_add(1);
+            self.fault();
         }
         refused
     }
@@ -83,7 +87,7 @@ impl Calls {
         ensures rose { Rose self.old.faults self.new.faults }
         ensures later { self.old.faults ≤ self.new.faults }
     {
-        self.faults = self.faults.saturating_add(1);
+        self.fault();
         self.wants = self.wants.saturating_add(1);
     }
 
@@ -94,6 +98,7 @@ impl Calls {
         ensures later { self.old.faults ≤ self.new.faults }
     {
         self.faults = self.faults.saturating_add(1);
+        self.last_failed = Some(self.count);
     }
 
     /// Counts why an operation isn't answered, and says it as a ledger does.

@@ -5,14 +5,13 @@ mod areas;
 mod calls;
 mod copy;
 mod disk;
+mod note;
 mod operate;
 mod pick;
 mod sink;
 mod site;
 mod source;
 mod stop;
-#[cfg(test)]
-mod tests;
 
 pub use disk::MemDisk;
 pub use sink::MemSink;

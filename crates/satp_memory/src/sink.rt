@@ -1,4 +1,4 @@
-ghost use Rattle.std.specs.Prelude.{◌≡◌, ◌≤◌, ◌⊎◌, Some, true, false, [], IfOk, OnOk, OnErr};
+ghost use Rattle.std.specs.Prelude.{◌≡◌, ◌≤◌, ◌⊎◌, Some, true, false, [], is_err, IfOk, OnOk, OnErr};
 ghost use Rattle.satp_base.specs.Streams.{Rose, Gains};
 ghost use Rattle.satp_memory.specs.Calling.{fresh, is_due, naming, stepped, succeeded, wanting};
 
@@ -7,10 +7,11 @@ use satp_base::{Memory, Sink, SinkFault};
 use std::alloc::Global;
 use std::marker::Model;
 
-/// Takes bytes into memory. A write fails where [`MemSink::fail`] named it, and beside that only where it found no memory.
+/// Takes bytes into memory, until a write has failed. A write fails where [`MemSink::fail`] named it, and beside that only where it found no memory.
 #[derive(Drop)]
 pub struct MemSink {
     bytes: Vec<u8>,
+    failed: bool,
     calls: Calls,
 }
 
@@ -19,16 +20,17 @@ impl Model for MemSink {
 
     ghost Value = { Taking };
 
-    ghost view = { λ s. record { bytes = s.bytes.items; calls = s.calls } };
+    ghost view = { λ s. record { bytes = s.bytes.items; failed = s.failed; calls = s.calls } };
 }
 
 impl MemSink {
     /// A sink that has taken nothing.
     pub fn new(alloc: Global) -> Result<MemSink, Memory>
-        ensures { IfOk result (λ sink. sink ≡ record { bytes = []; calls = fresh }) }
+        ensures { IfOk result (λ sink. sink ≡ record { bytes = []; failed = false; calls = fresh }) }
     {
         Ok(MemSink {
             bytes: Vec::new(alloc),
+            failed: false,
             calls: Calls::new(alloc),
         })
     }
@@ -68,7 +70,11 @@ impl Sink for MemSink {
 
     ghost taken = { λ s. Some s.bytes };
 
+    ghost has_failed = { λ s. s.failed };
+
     fn write(&mut self, piece: &[u8]) -> Result<usize, SinkFault>
+        requires { self.old.failed ≡ false }
+        ensures failed { self.new.failed ≡ is_err result }
         ensures faults { self.old.calls.faults ≤ self.new.calls.faults }
         ensures kept { OnOk result (self.new.calls.faults ≡ self.old.calls.faults) }
         ensures rose { OnErr result (Rose self.old.calls.faults self.new.calls.faults) }
@@ -78,11 +84,13 @@ impl Sink for MemSink {
         ensures due { OnErr result (((is_due self.old.calls ≡ true) × (self.new.calls ≡ stepped self.old.calls)) ⊎ (self.new.calls ≡ wanting (succeeded self.old.calls))) }
     {
         if self.calls.begin(false) {
+            self.failed = true;
             return Err(SinkFault);
         }
         match self.bytes.extend_from_slice(piece) {
             Ok(()) => Ok(piece.len()),
             Err(_) => {
+                self.failed = true;
                 self.calls.want();
                 Err(SinkFault)
             }

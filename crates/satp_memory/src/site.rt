@@ -23,13 +23,11 @@ pub struct MemSite<C: LedgerCore> {
 }
 
 impl<C: LedgerCore> MemSite<C> {
-    ghost use Rattle.std.specs.Prelude.{◌≡◌, ◌∷◌, [], None, Some, length, IfOk, OnOk, OnErr};
+    ghost use Rattle.std.specs.Prelude.{◌≡◌, None, Some, length, IfOk, OnOk, OnErr};
     ghost use Rattle.std.specs.Option.{option_copied};
     ghost use Rattle.satp_memory.specs.Calling.{cleared, fresh, naming};
     ghost use Rattle.satp_memory.specs.Stopping.{reached_alone, stop_after};
-    ghost use Rattle.satp_base.specs.Acts.{founded};
-    ghost use Rattle.satp_base.specs.declared.area.Event.TheVariants.{Founded};
-    ghost use Rattle.satp_memory.specs.Steps.{IsFresh, Restarts, adding, SameDisk, told_of};
+    ghost use Rattle.satp_memory.specs.Steps.{IsFresh, Restarts, SameDisk, is_stopped, told_of};
 
     /// A site with empty areas and no ledger, that was never called.
     pub fn new(alloc: Global) -> Result<MemSite<C>, Memory>
@@ -75,6 +73,13 @@ impl<C: LedgerCore> MemSite<C> {
         self.disk.stop_at(event, pick);
     }
 
+    /// Whether so many events are there that every call fails, until a restart.
+    pub fn is_stopped(&self) -> bool
+        ensures { result ≡ is_stopped self.now.disk }
+    {
+        self.disk.is_stopped()
+    }
+
     /// Drops a stop that wasn't reached, and each call that is to fail and hasn't come.
     pub fn clear(&mut self)
         ensures told { told_of self.new.disk ≡ told_of self.old.disk }
@@ -85,7 +90,7 @@ impl<C: LedgerCore> MemSite<C> {
         self.disk.clear();
     }
 
-    /// A restart behind a stop: each area has the image of the stop's pick, as [`MemDisk::restart`] says, the entries are as they were, and the trail begins anew with both.
+    /// A restart after a stop: each area has the image of the stop's pick, as [`MemDisk::restart`] says, the entries are as they were, and the trail begins anew with both.
     ///
     /// `Memory` leaves all as it was.
     pub fn restart(&mut self) -> Result<(), Memory>
@@ -103,30 +108,6 @@ impl<C: LedgerCore> MemSite<C> {
     {
         self.core.as_ref()
     }
-
-    /// Founds the ledger of a site that has none, and adds the event of it. `Memory` leaves it without one.
-    fn set_up(&mut self, genesis: &Genesis) -> Result<(), Memory>
-        requires { self.old.core ≡ None }
-        ensures ok { OnOk result ((told_of self.new.disk ≡ adding (Founded ∷ []) (told_of self.old.disk)) × (option_map C.book self.new.core ≡ Some (founded genesis.now))) }
-        ensures err { OnErr result ((told_of self.new.disk ≡ told_of self.old.disk) × (self.new.core ≡ None)) }
-        ensures asks { self.new.disk.asks.items ≡ self.old.disk.asks.items }
-        ensures failed { OnErr result (self.new.disk.events.items ≡ self.old.disk.events.items) }
-        ensures stop { self.new.disk.stop ≡ self.old.disk.stop }
-        ensures calls { self.new.disk.calls ≡ self.old.disk.calls }
-    {
-        match self.disk.find_room() {
-            Ok(()) => {}
-            Err(_) => return Err(Memory),
-        }
-        match C::begin(self.disk.alloc, genesis) {
-            Ok(core) => {
-                self.core = Some(core);
-                self.disk.note(Event::Founded);
-                Ok(())
-            }
-            Err(_) => Err(Memory),
-        }
-    }
 }
 
 /// The kinds are one.
@@ -138,6 +119,8 @@ fn same_kind(kind: LedgerKind, own: LedgerKind) -> bool
 
 impl<C: LedgerCore> Device for MemSite<C> {
     ghost use Rattle.std.specs.Prelude.{Some};
+    ghost use Rattle.satp_memory.specs.FollowingLaws.{follows_site_same, follows_site_then};
+    ghost use Rattle.satp_memory.specs.Following.{FollowsSite};
     ghost use Rattle.satp_memory.specs.Plain.{told_keeps};
     ghost use Rattle.satp_memory.specs.Steps.{told_of};
 
@@ -147,7 +130,13 @@ impl<C: LedgerCore> Device for MemSite<C> {
 
     ghost faults = { λ s. s.disk.calls.faults };
 
+    ghost beside = { λ old new. FollowsSite C.KIND (option_map C.book old.core) (option_map C.book new.core) old.disk new.disk };
+
     ghost keeps_model = { λ s t is. told_keeps _ t s.disk.plain is };
+
+    ghost beside_same = { λ s. follows_site_same C.KIND (option_map C.book s.core) s.disk };
+
+    ghost beside_then = { λ a b c. follows_site_then C.KIND (option_map C.book a.core) (option_map C.book b.core) (option_map C.book c.core) a.disk b.disk c.disk };
 }
 
 impl<C: LedgerCore> Disk for MemSite<C> {
@@ -155,16 +144,18 @@ impl<C: LedgerCore> Disk for MemSite<C> {
     ghost use Rattle.std.specs.Option.{ForSome};
     ghost use Rattle.satp_base.specs.Streams.{HasCause};
     ghost use Rattle.satp_base.specs.Trail.{seen};
-    ghost use Rattle.satp_base.specs.Calls.{Fails, MayMiss, Reads, entered, made};
+    ghost use Rattle.satp_base.specs.Calls.{Fails, MayMiss, Reads, call_failed, enter_failed, entered, made};
     ghost use Rattle.satp_base.specs.declared.area.Event.TheVariants.{Wrote, Cut, Synced};
+    ghost use Rattle.satp_memory.specs.Following.{FollowsSite};
     ghost use Rattle.satp_memory.specs.Steps.{Adds, Ends, EndsOrWants, EntersOrWants, told_of};
 
     fn enter(&mut self, dir: &[u8]) -> Result<(), DiskFault>
         ensures ok { OnOk result (told_of self.new.disk ≡ entered dir.now (told_of self.old.disk)) }
-        ensures err { OnErr result (MayMiss (entered dir.now) (Some (told_of self.old.disk)) (Some (told_of self.new.disk))) }
+        ensures err { OnErr result (MayMiss (enter_failed dir.now) [] (Some (told_of self.old.disk)) (Some (told_of self.new.disk))) }
         ensures cause { HasCause self.old.disk.calls.faults self.new.disk.calls.faults result }
         ensures ended { EntersOrWants dir.now self.old.disk self.new.disk result }
         ensures stop { self.new.disk.stop ≡ self.old.disk.stop }
+        ensures beside { FollowsSite C.KIND (option_map C.book self.old.core) (option_map C.book self.new.core) self.old.disk self.new.disk }
         ensures core { self.new.core ≡ self.old.core }
     {
         self.disk.enter(dir)
@@ -172,10 +163,12 @@ impl<C: LedgerCore> Disk for MemSite<C> {
 
     fn length(&mut self, area: Area) -> Result<u64, DiskFault>
         ensures length { IfOk result (λ n. n ≡ length (seen (told_of self.old.disk).trail area)) }
-        ensures told { told_of self.new.disk ≡ made 1 [] (told_of self.old.disk) }
+        ensures ok { OnOk result (told_of self.new.disk ≡ made 1 [] (told_of self.old.disk)) }
+        ensures err { OnErr result (told_of self.new.disk ≡ call_failed [] (told_of self.old.disk)) }
         ensures cause { HasCause self.old.disk.calls.faults self.new.disk.calls.faults result }
         ensures ended { Ends self.old.disk self.new.disk result }
         ensures stop { self.new.disk.stop ≡ self.old.disk.stop }
+        ensures beside { FollowsSite C.KIND (option_map C.book self.old.core) (option_map C.book self.new.core) self.old.disk self.new.disk }
         ensures core { self.new.core ≡ self.old.core }
     {
         self.disk.length(area)
@@ -184,10 +177,12 @@ impl<C: LedgerCore> Disk for MemSite<C> {
     fn read(&mut self, area: Area, at: u64, into: &mut [u8]) -> Result<usize, DiskFault>
         ensures bound { IfOk result (λ n. n ≤ length into.new) }
         ensures bytes { IfOk result (λ n. Reads (seen (told_of self.old.disk).trail area) at into.new n) }
-        ensures told { told_of self.new.disk ≡ made 1 [] (told_of self.old.disk) }
+        ensures ok { OnOk result (told_of self.new.disk ≡ made 1 [] (told_of self.old.disk)) }
+        ensures err { OnErr result (told_of self.new.disk ≡ call_failed [] (told_of self.old.disk)) }
         ensures cause { HasCause self.old.disk.calls.faults self.new.disk.calls.faults result }
         ensures ended { Ends self.old.disk self.new.disk result }
         ensures stop { self.new.disk.stop ≡ self.old.disk.stop }
+        ensures beside { FollowsSite C.KIND (option_map C.book self.old.core) (option_map C.book self.new.core) self.old.disk self.new.disk }
         ensures core { self.new.core ≡ self.old.core }
     {
         self.disk.read(area, at, into)
@@ -202,6 +197,7 @@ impl<C: LedgerCore> Disk for MemSite<C> {
         ensures ended { EndsOrWants self.old.disk self.new.disk result }
         ensures adds { Adds (Wrote area at bytes.now) (Wrote area at bytes.now ∷ []) self.old.disk self.new.disk result }
         ensures stop { self.new.disk.stop ≡ self.old.disk.stop }
+        ensures beside { FollowsSite C.KIND (option_map C.book self.old.core) (option_map C.book self.new.core) self.old.disk self.new.disk }
         ensures core { self.new.core ≡ self.old.core }
     {
         self.disk.write(area, at, bytes)
@@ -215,6 +211,7 @@ impl<C: LedgerCore> Disk for MemSite<C> {
         ensures ended { EndsOrWants self.old.disk self.new.disk result }
         ensures adds { Adds (Cut area size) (Cut area size ∷ []) self.old.disk self.new.disk result }
         ensures stop { self.new.disk.stop ≡ self.old.disk.stop }
+        ensures beside { FollowsSite C.KIND (option_map C.book self.old.core) (option_map C.book self.new.core) self.old.disk self.new.disk }
         ensures core { self.new.core ≡ self.old.core }
     {
         self.disk.cut(area, size)
@@ -227,6 +224,7 @@ impl<C: LedgerCore> Disk for MemSite<C> {
         ensures ended { EndsOrWants self.old.disk self.new.disk result }
         ensures adds { Adds (Synced area) [] self.old.disk self.new.disk result }
         ensures stop { self.new.disk.stop ≡ self.old.disk.stop }
+        ensures beside { FollowsSite C.KIND (option_map C.book self.old.core) (option_map C.book self.new.core) self.old.disk self.new.disk }
         ensures core { self.new.core ≡ self.old.core }
     {
         self.disk.sync(area)
@@ -240,6 +238,7 @@ impl<C: LedgerCore> Ledger for MemSite<C> {
     ghost use Rattle.satp_base.specs.LedgerRule.{entry_of};
     ghost use Rattle.satp_base.specs.declared.ledger.LedgerCall.TheVariants.{Act, Look};
     ghost use Rattle.satp_memory.specs.Calling.{is_refused};
+    ghost use Rattle.satp_memory.specs.Following.{FollowsSite};
     ghost use Rattle.satp_memory.specs.Sites.{ActEnds, ActTells, LedgerEnds};
     ghost use Rattle.satp_memory.specs.Steps.{Notes, is_stopped, told_of};
 
@@ -254,29 +253,23 @@ impl<C: LedgerCore> Ledger for MemSite<C> {
         ensures failed { OnErr result ((option_map C.book self.new.core ≡ option_map C.book self.old.core) × (self.new.disk.events.items ≡ self.old.disk.events.items)) }
         ensures untold { option_map C.book self.old.core ≡ None → option_map C.book self.new.core ≡ None }
         ensures stop { self.new.disk.stop ≡ self.old.disk.stop }
+        ensures beside { FollowsSite C.KIND (option_map C.book self.old.core) (option_map C.book self.new.core) self.old.disk self.new.disk }
     {
         let call = LedgerCall::Act {
             op,
             session,
             terms: *terms,
         };
-        match self.disk.ask(call) {
-            Ok(()) => {}
+        let ask = match self.disk.ask(call, self.core.is_some()) {
+            Ok(ask) => ask,
             Err(_) => return Err(ActFault::Failed),
-        }
-        match self.disk.find_room() {
-            Ok(()) => {}
-            Err(_) => {
-                self.disk.calls.want();
-                return Err(ActFault::Failed);
-            }
-        }
+        };
         match operate(&mut self.core, op, session, terms) {
             Ok(done) => {
-                self.disk.note_change(done.changed, op, session, *terms);
+                self.disk.answer(ask, done.changed, op, session, *terms);
                 Ok(done.answer)
             }
-            Err(halt) => Err(self.disk.calls.halt(halt)),
+            Err(halt) => Err(self.disk.halt(ask, halt)),
         }
     }
 
@@ -288,18 +281,20 @@ impl<C: LedgerCore> Ledger for MemSite<C> {
         ensures cause { HasCause self.old.disk.calls.faults self.new.disk.calls.faults result }
         ensures ended { LedgerEnds (is_refused (is_stopped self.old.disk) self.old.disk.calls) (is_some (option_map C.book self.old.core)) self.old.disk.calls self.new.disk.calls result }
         ensures stop { self.new.disk.stop ≡ self.old.disk.stop }
+        ensures beside { FollowsSite C.KIND (option_map C.book self.old.core) (option_map C.book self.new.core) self.old.disk self.new.disk }
         ensures core { self.new.core ≡ self.old.core }
     {
-        match self.disk.ask(LedgerCall::Look { session }) {
-            Ok(()) => {}
+        let call = LedgerCall::Look { session };
+        let ask = match self.disk.ask(call, self.core.is_some()) {
+            Ok(ask) => ask,
             Err(_) => return Err(ActFault::Failed),
-        }
+        };
         match &self.core {
-            Some(core) => Ok(core.entry(session)),
-            None => {
-                self.disk.calls.fault();
-                Err(ActFault::Failed)
+            Some(core) => {
+                self.disk.done(ask);
+                Ok(core.entry(session))
             }
+            None => Err(self.disk.halt(ask, Halt::Unfounded)),
         }
     }
 }
@@ -311,6 +306,7 @@ impl<C: LedgerCore> Site for MemSite<C> {
     ghost use Rattle.satp_base.specs.declared.area.Event.{Event};
     ghost use Rattle.satp_base.specs.declared.ledger.LedgerCall.TheVariants.{Found, Raise};
     ghost use Rattle.satp_memory.specs.Calling.{is_refused};
+    ghost use Rattle.satp_memory.specs.Following.{FollowsSite};
     ghost use Rattle.satp_memory.specs.Sites.{LedgerEnds, same_kind};
     ghost use Rattle.satp_memory.specs.Steps.{Notes, is_stopped, told_of};
     ghost use Rattle.satp_memory.specs.OneLedger.{one_ledger_of};
@@ -325,20 +321,22 @@ impl<C: LedgerCore> Site for MemSite<C> {
         ensures cause { HasCause self.old.disk.calls.faults self.new.disk.calls.faults result }
         ensures ended { LedgerEnds (is_refused (is_stopped self.old.disk) self.old.disk.calls) (same_kind kind C.KIND) self.old.disk.calls self.new.disk.calls result }
         ensures stop { self.new.disk.stop ≡ self.old.disk.stop }
+        ensures beside { FollowsSite C.KIND (option_map C.book self.old.core) (option_map C.book self.new.core) self.old.disk self.new.disk }
     {
         self.core = None;
-        match self.disk.ask_founding(kind, genesis) {
-            Ok(()) => {}
+        let fits = same_kind(kind, C::KIND);
+        let ask = match self.disk.ask_founding(kind, genesis, fits) {
+            Ok(ask) => ask,
             Err(_) => return Err(SiteFault),
-        }
-        if !same_kind(kind, C::KIND) {
-            self.disk.calls.fault();
-            return Err(SiteFault);
-        }
-        match self.set_up(genesis) {
-            Ok(()) => Ok(()),
-            Err(Memory) => {
-                self.disk.calls.want();
+        };
+        match C::begin(self.disk.alloc, genesis) {
+            Ok(core) => {
+                self.core = Some(core);
+                self.disk.found(ask);
+                Ok(())
+            }
+            Err(_) => {
+                self.disk.halt(ask, Halt::Memory);
                 Err(SiteFault)
             }
         }
@@ -350,17 +348,16 @@ impl<C: LedgerCore> Site for MemSite<C> {
         ensures cause { HasCause self.old.disk.calls.faults self.new.disk.calls.faults result }
         ensures ended { LedgerEnds (is_refused (is_stopped self.old.disk) self.old.disk.calls) (is_some (option_map C.book self.old.core)) self.old.disk.calls self.new.disk.calls result }
         ensures stop { self.new.disk.stop ≡ self.old.disk.stop }
+        ensures beside { FollowsSite C.KIND (option_map C.book self.old.core) (option_map C.book self.new.core) self.old.disk self.new.disk }
         ensures core { self.new.core ≡ self.old.core }
     {
-        match self.disk.ask(LedgerCall::Raise) {
-            Ok(()) => {}
-            Err(_) => return Err(SiteFault),
+        match self.disk.ask(LedgerCall::Raise, self.core.is_some()) {
+            Ok(ask) => {
+                self.disk.done(ask);
+                Ok(())
+            }
+            Err(_) => Err(SiteFault),
         }
-        if self.core.is_none() {
-            self.disk.calls.fault();
-            return Err(SiteFault);
-        }
-        Ok(())
     }
 
     ghost one_ledger = { λ site t b told book. one_ledger_of site.disk (option_map C.book site.core) t b site.one told book };

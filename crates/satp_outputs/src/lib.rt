@@ -5,8 +5,6 @@ mod begin;
 mod laws;
 mod output;
 mod outputs;
-#[cfg(test)]
-mod tests;
 mod unspent;
 
 pub use laws::law_numbers;

@@ -1,6 +1,5 @@
-ghost use Rattle.std.specs.Prelude.{◌≡◌, ◌≢◌, ◌<◌, ◌≤◌, ◌+◌, ◌-◌, min, Ok, Err};
-ghost use Rattle.satp_base.specs.declared.head.Head.{Head};
-ghost use Rattle.satp_recovery.specs.Rounds.{entries_needed};
+ghost use Rattle.std.specs.Prelude.{◌≡◌, ◌≤◌, None, Some};
+ghost use Rattle.satp_recovery.specs.Rounds.{agree_of, answer_of, length_fault, link_fault, take_of, unless};
 
 use satp_base::{Head, Link};
 
@@ -31,21 +30,11 @@ pub enum Step {
 /// How many of this side's last messages the peer lacks, from what `recover` says of the peer's chain.
 ///
 /// `length` is the number of the peer's messages and `last` the link of its last one. The lengths may
-/// differ by one.
+/// differ by one; `last` is compared where the peer has no more. `Longer` and `Shorter` come exactly where
+/// they differ by more, `OtherHash` exactly where the link isn't that of the last message that both have.
 pub fn answer(head: &Head, length: u8, last: Link) -> Result<u8, RecoveryFault>
     requires { head.now.length ≤ 11 }
-    ensures longer { head.now.length + 1 < length → result ≡ Err (RecoveryFault.Longer (length - head.now.length)) }
-    ensures shorter { length + 1 < head.now.length → result ≡ Err (RecoveryFault.Shorter (head.now.length - length)) }
-
-    // A peer that has one message more lacks none, whatever its last one is.
-    ensures one_more { length ≡ head.now.length + 1 → result ≡ Ok 0 }
-    ensures equal { length ≡ head.now.length → last ≡ head.now.last → result ≡ Ok 0 }
-    ensures one_fewer { length + 1 ≡ head.now.length → last ≡ head.now.before → result ≡ Ok 1 }
-
-    ensures other_last { length ≡ head.now.length → last ≢ head.now.last
-        → result ≡ Err (RecoveryFault.OtherHash head.now.last last) }
-    ensures other_before { length + 1 ≡ head.now.length → last ≢ head.now.before
-        → result ≡ Err (RecoveryFault.OtherHash head.now.before last) }
+    ensures { result ≡ answer_of head.now length last }
 {
     no_farther_apart(head.length, length, 1)?;
     if length > head.length {
@@ -61,19 +50,11 @@ pub fn answer(head: &Head, length: u8, last: Link) -> Result<u8, RecoveryFault>
 
 /// What to do with a peer's answer: the peer has `length` messages, and `entries` of them came along.
 ///
-/// The lengths may differ by one, and as many messages have to come along as the peer has more.
+/// The lengths may differ by one, and as many messages have to come along as the peer has more. `Longer` and
+/// `Shorter` come exactly where the lengths differ by more, else `EntryRefused` exactly where it isn't that many.
 pub fn take(head: &Head, length: u8, entries: usize) -> Result<Step, RecoveryFault>
     requires { head.now.length ≤ 11 }
-    ensures longer { head.now.length + 1 < length → result ≡ Err (RecoveryFault.Longer (length - head.now.length)) }
-    ensures shorter { length + 1 < head.now.length → result ≡ Err (RecoveryFault.Shorter (head.now.length - length)) }
-
-    ensures refused { length ≤ head.now.length + 1 → head.now.length ≤ length + 1
-        → entries ≢ entries_needed head.now.length length
-        → result ≡ Err (RecoveryFault.EntryRefused (head.now.length + min (entries_needed head.now.length length) entries + 1)) }
-
-    ensures adopt { length ≡ head.now.length + 1 → entries ≡ 1 → result ≡ Ok (Step.Adopt length) }
-    ensures equal { length ≡ head.now.length → entries ≡ 0 → result ≡ Ok Step.Equal }
-    ensures resend { length + 1 ≡ head.now.length → entries ≡ 0 → result ≡ Ok (Step.Resend head.now.length) }
+    ensures { result ≡ take_of head.now length entries }
 {
     no_farther_apart(head.length, length, 1)?;
     let needed = usize::from(length > head.length);
@@ -92,14 +73,11 @@ pub fn take(head: &Head, length: u8, entries: usize) -> Result<Step, RecoveryFau
     }
 }
 
-/// Whether both chains are equal, as `recover-success` says: as long, and with the same last link.
+/// Whether both chains are equal, as `recover-success` says: as long, and with the same last link. `Longer`
+/// and `Shorter` come exactly where they aren't as long, else `OtherHash` exactly where the links differ.
 pub fn agree(head: &Head, length: u8, last: Link) -> Result<(), RecoveryFault>
     requires { head.now.length ≤ 11 }
-    ensures longer { head.now.length < length → result ≡ Err (RecoveryFault.Longer (length - head.now.length)) }
-    ensures shorter { length < head.now.length → result ≡ Err (RecoveryFault.Shorter (head.now.length - length)) }
-    ensures equal { length ≡ head.now.length → last ≡ head.now.last → result ≡ Ok tt }
-    ensures other { length ≡ head.now.length → last ≢ head.now.last
-        → result ≡ Err (RecoveryFault.OtherHash head.now.last last) }
+    ensures { result ≡ agree_of head.now length last }
 {
     no_farther_apart(head.length, length, 0)?;
     same_link(head.last, last)
@@ -109,9 +87,7 @@ pub fn agree(head: &Head, length: u8, last: Link) -> Result<(), RecoveryFault>
 fn no_farther_apart(kept: u8, given: u8, most: u8) -> Result<(), RecoveryFault>
     requires kept { kept ≤ 11 }
     requires most { most ≤ 1 }
-    ensures longer { kept + most < given → result ≡ Err (RecoveryFault.Longer (given - kept)) }
-    ensures shorter { given + most < kept → result ≡ Err (RecoveryFault.Shorter (kept - given)) }
-    ensures near { given ≤ kept + most → kept ≤ given + most → result ≡ Ok tt }
+    ensures { result ≡ unless (length_fault most kept given) tt }
 {
     if given > kept + most {
         return Err(RecoveryFault::Longer { by: given - kept });
@@ -124,8 +100,7 @@ fn no_farther_apart(kept: u8, given: u8, most: u8) -> Result<(), RecoveryFault>
 
 /// Whether the peer's link is the one that is kept.
 fn same_link(kept: Link, given: Link) -> Result<(), RecoveryFault>
-    ensures same { given ≡ kept → result ≡ Ok tt }
-    ensures other { given ≢ kept → result ≡ Err (RecoveryFault.OtherHash kept given) }
+    ensures { result ≡ unless (link_fault kept given) tt }
 {
     if given == kept {
         Ok(())

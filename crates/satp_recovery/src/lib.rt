@@ -6,7 +6,7 @@
 #![tactic(auto)]
 
 mod choice;
-#[cfg(test)]
-mod tests;
+mod laws;
 
 pub use choice::{RecoveryFault, Step, agree, answer, take};
+pub use laws::law_rounds;

@@ -1,9 +1,11 @@
-//! Tests of both sides' tables, over each view that records lead to.
+//! Tests of both sides' tables, over each view that records lead to, and of the choices of a recovery round.
 #![tactic(auto)]
 
 #[cfg(test)]
-mod origin_tests;
+mod lines;
 #[cfg(test)]
-mod recipient_tests;
+mod recovery_tests;
+#[cfg(test)]
+mod turn_tests;
 #[cfg(test)]
 mod walks;

@@ -2,10 +2,9 @@ ghost use Rattle.std.specs.Prelude.{◌↔◌, IsTrue};
 ghost use Rattle.satp_base.specs.Roles.{RoleRule};
 ghost use Rattle.satp_base.specs.Views.{KeepsTale};
 
+use crate::lines::{line_of_origin, line_of_recipient};
 use satp_base::{Amount, Cause, Kind, LedgerOp, Name, Next, Rec, Role, Terms, View, Way};
 use std::alloc::Global;
-use std::process::Abort;
-use std::test::Fail;
 
 const KINDS: [Kind; 17] = [
     Kind::TransferProposal,
@@ -54,7 +53,7 @@ fn allows(view: &View, rec: Rec) -> bool
     }
 }
 
-/// Whether the message of a record, where it has one, may come behind the tale.
+/// Whether the message of a record, where it has one, may come after the tale.
 fn extends(view: &View, rec: Rec) -> bool
     ensures { IsTrue result → KeepsTale view.now.tale rec }
 {
@@ -66,72 +65,111 @@ fn extends(view: &View, rec: Rec) -> bool
 }
 
 /// The view with a record more, where the record may come.
-pub fn grown(rt: &impl Abort, view: &View, rec: Rec) -> Option<View> {
+pub fn grown(view: &View, rec: Rec) -> Option<View> {
     if !allows(view, rec) {
         return None;
     }
-    assert!(rt; extends(view, rec));
+    if !extends(view, rec) {
+        return None;
+    }
     let mut grown = *view;
     grown.push(rec);
     Some(grown)
 }
 
-/// The view behind these records.
-pub fn walked(rt: &impl Abort, from: View, records: &[Rec]) -> Result<View, Fail> {
+/// The view after these records.
+pub fn walked(from: View, records: &[Rec]) -> Option<View> {
     let mut view = from;
     for rec in records {
-        view = grown(rt, &view, *rec).ok_or("refused")?;
+        view = grown(&view, *rec)?;
     }
-    Ok(view)
+    Some(view)
 }
 
 /// What a side's records say once its session has begun.
-pub fn begun(role: Role) -> Result<View, Fail> {
+pub fn begun(role: Role) -> Option<View> {
     let terms = Terms {
-        amount: Amount::from(250).ok_or("no amount")?,
-        asset: Name::read(b"gold").ok().ok_or("no name")?,
-        beneficiary: Name::read(b"bob").ok().ok_or("no name")?,
-        originator: Name::read(b"ann").ok().ok_or("no name")?,
+        amount: Amount::from(250)?,
+        asset: Name::read(b"gold").ok()?,
+        beneficiary: Name::read(b"bob").ok()?,
+        originator: Name::read(b"ann").ok()?,
     };
-    Ok(View::begin(role, terms))
+    Some(View::begin(role, terms))
+}
+
+/// Adds the view that one record more leads to, if any; no message of a record that may come is refused by the tale.
+fn add_grown(views: &mut Vec<View>, view: &View, rec: Rec) -> bool {
+    match grown(view, rec) {
+        Some(grown) => views.push(grown).is_ok(),
+        None => !allows(view, rec),
+    }
 }
 
 /// Adds the views that one record more leads to.
-fn add_grown(rt: &impl Abort, views: &mut Vec<View>, view: &View) -> Result<(), Fail> {
+fn add_each_grown(views: &mut Vec<View>, view: &View) -> bool {
     for kind in KINDS {
-        for rec in [Rec::Took(kind), Rec::Made(kind)] {
-            if let Some(grown) = grown(rt, view, rec) {
-                views.push(grown)?;
-            }
+        if !add_grown(views, view, Rec::Took(kind)) || !add_grown(views, view, Rec::Made(kind)) {
+            return false;
         }
     }
     for rec in OTHERS {
-        if let Some(grown) = grown(rt, view, rec) {
-            views.push(grown)?;
+        if !add_grown(views, view, rec) {
+            return false;
         }
     }
-    Ok(())
+    true
 }
 
-/// Each view that records lead a side to, once for each list of records that does.
-pub fn all_views(rt: &impl Abort, alloc: Global, role: Role) -> Result<Vec<View>, Fail> {
-    let mut views = Vec::new(alloc);
-    views.push(begun(role)?)?;
+/// Adds each view that records lead to from the first, once for each list of records that does.
+fn add_all(views: &mut Vec<View>, first: View) -> bool {
+    if views.push(first).is_err() {
+        return false;
+    }
     for index in 0..10_000 {
         let Some(view) = views.get(index).copied() else {
-            return Ok(views);
+            return true;
         };
-        add_grown(rt, &mut views, &view)?;
-    }
-    Err("there is no end of views".into())
-}
-
-/// The first line of a table that fits; to wait where none does.
-pub fn first_of(lines: &[(bool, Next)]) -> Next {
-    for (fits, next) in lines {
-        if *fits {
-            return *next;
+        if !add_each_grown(views, &view) {
+            return false;
         }
     }
-    Next::Wait
+    false
+}
+
+/// The tables of both sides give the lines of these views, and at least one session comes to its end.
+fn have_their_lines(views: &[View]) -> bool {
+    let mut ended = false;
+    for view in views {
+        if next_of(view) != line_of(view) {
+            return false;
+        }
+        ended = ended || view.tale.whole();
+    }
+    ended
+}
+
+fn next_of(view: &View) -> Next {
+    match view.role {
+        Role::Origin => satp_origin::next(view),
+        Role::Recipient => satp_recipient::next(view),
+    }
+}
+
+fn line_of(view: &View) -> Next {
+    match view.role {
+        Role::Origin => line_of_origin(view),
+        Role::Recipient => line_of_recipient(view),
+    }
+}
+
+fn all_have_their_lines(alloc: Global, role: Role) -> Option<bool> {
+    let first = begun(role)?;
+    let mut views = Vec::new(alloc);
+    Some(add_all(&mut views, first) && have_their_lines(&views))
+}
+
+#[test]
+fn each_view_that_records_lead_to_has_its_line(rt: HostRuntime) {
+    assert!(rt; all_have_their_lines(rt.alloc(), Role::Origin) == Some(true));
+    assert!(rt; all_have_their_lines(rt.alloc(), Role::Recipient) == Some(true));
 }

@@ -30,6 +30,7 @@ use Rattle.satp_sides.specs.DueLaws.{DueIsShort, DueRests, MadeRests, Rests, Tur
 use Rattle.satp_sides.specs.Points.{Move, Appends, Acts, Says, Party, Slot, noted, stored}
 use Rattle.satp_sides.proofs.DueCheck.{origins_all, recipients_all}
 use Rattle.satp_sides.proofs.DueTable.{Look, due_ok, look_ok, look_of, made_by, made_ok, next_at, origin_look, origins_ok, pushed, recipient_look, recipients_ok, recs_after, rests, turn_ok, with_kind}
+use Rattle.satp_sides.proofs.Records.{push-head}
 use Rattle.satp_sides.proofs.Lists.{bools, in_bools, in_lasts, in_ways, lasts, ways}
 
 -- ---- views and looks
@@ -63,14 +64,6 @@ look-push v (Made k) = look-kind v k
 look-push v (Did op) = refl
 look-push v (Chose way) = refl
 look-push v Rescue = refl
-
-pub push-head : (v : View) (r : Rec) → ((push v r).role ≡ v.role) × ((push v r).terms ≡ v.terms)
-push-head v (Began role terms) = (refl, refl)
-push-head v (Took kind) = (refl, refl)
-push-head v (Made kind) = (refl, refl)
-push-head v (Did op) = (refl, refl)
-push-head v (Chose way) = (refl, refl)
-push-head v Rescue = (refl, refl)
 
 -- ---- every look passes
 

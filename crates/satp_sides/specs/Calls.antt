@@ -25,7 +25,7 @@ use Rattle.satp_base.specs.declared.record.TooLate.{TooLate as Late}
 use Rattle.satp_base.specs.declared.verdict.Verdict.{Verdict}
 use Rattle.satp_base.specs.declared.verdict.Verdict.TheVariants as verdict
 use Rattle.satp_base.specs.declared.view.View.{View}
-use Rattle.satp_sides.specs.Temp.{agree_of, answer_of, take_of}
+use Rattle.satp_recovery.specs.Rounds.{agree_of, answer_of, take_of}
 use Rattle.satp_recovery.specs.declared.choice.RecoveryFault.{RecoveryFault}
 use Rattle.satp_recovery.specs.declared.choice.RecoveryFault.TheVariants.{EntryRefused}
 use Rattle.satp_recovery.specs.declared.choice.Step.{Step}

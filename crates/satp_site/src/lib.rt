@@ -4,8 +4,6 @@
 mod directory;
 mod kept_ledger;
 mod site;
-#[cfg(test)]
-mod tests;
 
 pub use directory::Directory;
 pub use site::RealSite;

@@ -23,7 +23,7 @@ use Rattle.satp_base.proofs.SessionLemmas.{exact_sessions, sessions_total}
 use Rattle.satp_money.proofs.Counting.{sum_moved, under}
 use Rattle.satp_money.proofs.Moves.{given_before}
 use Rattle.satp_money.proofs.Maps.{entries_empty}
-use Rattle.satp_world.proofs.Records.{is-session, session-self}
+use Rattle.satp_sides.proofs.Records.{is-session, session-self}
 use Rattle.satp_world.proofs.Amounts.{all-within, items, keys-cover, keys-within, left_at, of, of-items, of-map, whole, whole-items, worth}
 
 -- ---- what an owner has given is covered

@@ -5,7 +5,8 @@ use Rattle.satp_base.specs.declared.message.Role.TheVariants.{Origin, Recipient}
 use Rattle.satp_base.specs.declared.ledger.Entry.{Entry}
 use Rattle.satp_base.specs.declared.ledger.Entry.TheVariants.{Absent, Locked, Burnt, Minted, Assigned, Released}
 use Rattle.satp_base.specs.Roles.{either, negate}
-use Rattle.satp_world.specs.Sessions.{entry_is, GoesOn}
+use Rattle.satp_sides.specs.Halves.{entry_is}
+use Rattle.satp_world.specs.Sessions.{GoesOn}
 use Rattle.satp_world.specs.Deal.{Deal, Decision, DealStep}
 use Rattle.satp_world.specs.Deal.DealStep.{Locks, Mints, Readies, Commits, Origin_backs, Recipient_backs, Burns, Assigns, Origin_releases, Recipient_releases}
 use Rattle.satp_base.proofs.Finite.{andthen, same_bool, same_bool-is, andthen-left, andthen-right, orelse-split}

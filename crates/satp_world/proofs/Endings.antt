@@ -35,9 +35,9 @@ use Rattle.satp_base.specs.declared.record.Rec.{Rec}
 use Rattle.satp_base.specs.declared.record.Rec.TheVariants.{Did, Chose}
 use Rattle.satp_base.specs.declared.session.SessionId.{SessionId}
 use Rattle.satp_base.specs.declared.view.View.{View}
-use Rattle.satp_world.specs.Sessions.{tale_of}
-use Rattle.satp_world.specs.Worlds.{Setting, Text}
-use Rattle.satp_world.specs.Worlds.Among.{first, later}
+use Rattle.satp_sides.specs.Points.{tale_of, Text}
+use Rattle.satp_world.specs.Worlds.{Setting}
+use Rattle.satp_sides.specs.Moves.Among.{first, later}
 use Rattle.satp_world.specs.Worlds.Gateway.{A}
 use Rattle.satp_world.specs.Examples.{CanEnd, Case, Endings, CanRecover, Ends, LawEndings, first_book, rejected, rolled_back}
 use Rattle.satp_world.proofs.RuleMoves.{entry-moved}

@@ -16,10 +16,15 @@ use Rattle.satp_base.specs.declared.view.View.{View}
 use Rattle.satp_base.specs.Views.{push}
 use Rattle.satp_base.proofs.SessionLemmas.{sessions_total}
 use Rattle.satp_money.proofs.Counting.{standing_at, under}
-use Rattle.satp_world.specs.Worlds.{EntriesStand, Gateway, Setting, Side, SideMoves, Stored, Text, is_session, view_in, with_record}
-use Rattle.satp_world.specs.Worlds.SideMoves.{Proposes, Accepts, Takes, Makes, Notes, Acts, Says, Stops}
-use Rattle.satp_world.proofs.Records.{is-session, view-apart, view-here}
-use Rattle.satp_world.proofs.StepLaw.{push-head}
+use Rattle.satp_sides.specs.Moves.{SideMoves}
+use Rattle.satp_sides.specs.Points.{Party, Side, Stored, Text, is_session, view_in, with_record}
+use Rattle.satp_world.specs.Worlds.{EntriesStand, Gateway, Setting, party_at}
+use Rattle.satp_sides.specs.Moves.{IsAct}
+use Rattle.satp_sides.specs.Moves.SideMoves.{Moves, Stops}
+use Rattle.satp_sides.specs.Points.Move.{Appends, Acts, Says}
+use Rattle.satp_base.specs.LedgerRule.{operation}
+use Rattle.satp_sides.proofs.Moving.{act-at, act-rule}
+use Rattle.satp_sides.proofs.Records.{is-session, push-head, view-apart, view-here}
 
 -- one record more leaves the terms of every session
 entries-record : (side : Side) (s : SessionId) (r : Rec) (t : Text) → EntriesStand side → EntriesStand (with_record side s r t)
@@ -79,12 +84,10 @@ entries-acted side Mint s v (Answer.Capped total) b old e h = still side b h.3 o
 entries-acted side _ s v _ b old e h = absurd h
 
 -- every move of a gateway keeps this of its entries
-pub entries-kept : (st : Setting) (g : Gateway) (side : Side) (bag : List Text) (new : Side) (more : List Text) → SideMoves st g side bag new more → EntriesStand side → EntriesStand new
-entries-kept st g side bag _ _ (Proposes s terms n e c) old = entries-record side s _ _ old
-entries-kept st g side bag _ _ (Accepts s terms text n e c d z) old = entries-record side s _ _ old
-entries-kept st g side bag _ _ (Takes s v p text e rule f d z) old = entries-record side s _ _ old
-entries-kept st g side bag _ _ (Makes s v p e rule f) old = entries-record side s _ _ old
-entries-kept st g side bag _ _ (Notes s v r e rule m l) old = entries-record side s _ _ old
-entries-kept st g side bag _ _ (Acts s v op answer book e due rule) old = entries-acted side op s v answer book old e rule
-entries-kept st g side bag _ _ (Says u z) old = old
-entries-kept st g side bag _ _ Stops old = old
+pub entries-kept : (p : Party) (side : Side) (bag : List Text) (new : Side) (more : List Text) → SideMoves p side bag new more → EntriesStand side → EntriesStand new
+entries-kept p side bag _ _ (Moves (Appends x) m) old = entries-record side x.session x.rec x.text old
+entries-kept p side bag _ _ (Moves (Acts s op terms) m) old =
+    act-at side s op terms m (λ book. EntriesStand (record { records = side.records; book = book }))
+    (entries-acted side op s m.view m.answer (operation side.book op s m.view.terms).after old m.named (act-rule side s op terms m))
+entries-kept p side bag _ _ (Moves (Says u) m) old = old
+entries-kept p side bag _ _ Stops old = old

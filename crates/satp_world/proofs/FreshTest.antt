@@ -9,7 +9,7 @@ use Rattle.satp_base.specs.declared.record.Next.TheVariants.{Append, Act}
 use Rattle.satp_base.specs.Roles.{no_way, next_of}
 use Rattle.satp_base.proofs.Finite.{all_of, implies}
 use Rattle.satp_base.proofs.TaleTable.{begun_tales}
-use Rattle.satp_world.specs.Sessions.{Half}
+use Rattle.satp_sides.specs.Halves.{Half}
 use Rattle.satp_world.proofs.HalfTable.{Head, origins, recipients}
 
 -- a decision is due, or an operation behind whose refusal one comes

@@ -8,44 +8,11 @@ use Rattle.satp_base.specs.declared.record.Cause.TheVariants.{Aborted, LockRefus
 use Rattle.satp_base.specs.declared.ledger.Entry.{Entry}
 use Rattle.satp_base.specs.declared.ledger.Entry.TheVariants.{Absent, Locked, Burnt, Minted, Assigned, Released}
 use Rattle.satp_base.specs.declared.view.Done.{Done}
-use Rattle.satp_world.specs.Sessions.{Half}
-use Rattle.satp_world.proofs.HalfTable.{Head, bools, causes, ways, entries, dones, half_with, halves_by, origins, recipients, origin_test, recipient_test}
+use Rattle.satp_sides.specs.Halves.{Half}
+use Rattle.satp_sides.proofs.Lists.{bools, dones, entries, in_bools, in_dones, in_entries, in_ways, ways}
+use Rattle.satp_world.proofs.HalfTable.{Head, half_with, halves_by, origins, recipients, origin_test, recipient_test}
 use Rattle.satp_base.proofs.Finite.{bind, keep, In, In-bind, In-keep}
 use Rattle.satp_base.proofs.Finite.In.{here, there}
-
-pub in_bools : (b : Bool) → In b bools
-in_bools true = here
-in_bools false = there here
-
-in_causes : (c : Cause) → In c causes
-in_causes Aborted = here
-in_causes LockRefused = there here
-in_causes Rejected = there (there here)
-in_causes Rescued = there (there (there here))
-in_causes UnknownAsset = there (there (there (there here)))
-in_causes MintCapped = there (there (there (there (there here))))
-in_causes LedgerTaken = there (there (there (there (there (there here)))))
-
-in_ways : (w : Option Way) → In w ways
-in_ways None = here
-in_ways (Some Commit) = there here
-in_ways (Some (Back c)) = there (there (In-bind (λ c. Some (Back c) ∷ []) (in_causes c) here))
-
-in_entries : (e : Entry) → In e entries
-in_entries Absent = here
-in_entries Locked = there here
-in_entries Burnt = there (there here)
-in_entries Minted = there (there (there here))
-in_entries Assigned = there (there (there (there here)))
-in_entries Released = there (there (there (there (there here))))
-
-in_dones : (d : Done) → In d dones
-in_dones d =
-    In-bind (λ l. bind bools (λ b. bind bools (λ m. bind bools (λ a. bind bools (λ r. record { lock = l; burn = b; mint = m; assign = a; release = r } ∷ []))))) (in_bools d.lock)
-    (In-bind (λ b. bind bools (λ m. bind bools (λ a. bind bools (λ r. record { lock = d.lock; burn = b; mint = m; assign = a; release = r } ∷ [])))) (in_bools d.burn)
-    (In-bind (λ m. bind bools (λ a. bind bools (λ r. record { lock = d.lock; burn = d.burn; mint = m; assign = a; release = r } ∷ []))) (in_bools d.mint)
-    (In-bind (λ a. bind bools (λ r. record { lock = d.lock; burn = d.burn; mint = d.mint; assign = a; release = r } ∷ [])) (in_bools d.assign)
-    (In-bind (λ r. record { lock = d.lock; burn = d.burn; mint = d.mint; assign = d.assign; release = r } ∷ []) (in_bools d.release) (here {xs = []})))))
 
 in_halves : (p : Head) (t : List Kind) (rescues : List Bool) (parts : Done → Option Way → Entry → Bool) (d : Done) (w : Option Way) (r : Bool) (e : Entry) → In r rescues → parts d w e ≡ true → In (half_with p t d w r e) (halves_by p t rescues parts)
 in_halves q t rescues parts d w r e i p =

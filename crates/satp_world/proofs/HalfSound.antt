@@ -4,7 +4,7 @@ use Rattle.satp_base.specs.declared.message.Role.TheVariants.{Origin, Recipient}
 use Rattle.satp_base.specs.declared.message.Kind.TheVariants.{TransferProposal, CommenceAck, LockAssert, CommitPrepare, CommitReady, CommitFinal, CommitFinalAck, Reject, Rollback, RollbackAck}
 use Rattle.satp_base.specs.Tales.{has, IsTale}
 use Rattle.satp_base.specs.Roles.{negate}
-use Rattle.satp_world.specs.Sessions.{Half, OriginStands, RecipientStands}
+use Rattle.satp_sides.specs.Halves.{Half, OriginStands, RecipientStands}
 use Rattle.satp_base.proofs.Finite.{andthen-left, andthen-right, andthen-make, implies-make, implies-use}
 use Rattle.satp_world.proofs.HalfTable.{origin_list, recipient_test, recipient_list}
 use Rattle.satp_world.proofs.HalfTest.{side_test}

@@ -14,21 +14,11 @@ use Rattle.satp_base.specs.Tales.{has}
 use Rattle.satp_base.specs.declared.message.Terms.{Terms}
 use Rattle.satp_base.specs.Roles.{both, either, negate, no_way, is_commit, is_back, is_aborted}
 use Rattle.satp_world.specs.Deal.{Deal}
-use Rattle.satp_world.specs.Sessions.{Half, entry_is, decision_of}
+use Rattle.satp_sides.specs.Halves.{Half, entry_is}
+use Rattle.satp_world.specs.Sessions.{decision_of}
+use Rattle.satp_sides.proofs.Lists.{bools, dones, entries, ways}
 use Rattle.satp_base.proofs.Finite.{implies, bind, keep}
 use Rattle.satp_world.proofs.Logic.{all_then}
-
-abbrev pub bools : List Bool
-bools = true ∷ false ∷ []
-
-abbrev pub causes : List Cause
-causes = Aborted ∷ LockRefused ∷ Rejected ∷ Rescued ∷ UnknownAsset ∷ MintCapped ∷ LedgerTaken ∷ []
-
-abbrev pub ways : List (Option Way)
-ways = None ∷ Some Commit ∷ bind causes (λ c. Some (Back c) ∷ [])
-
-abbrev pub entries : List Entry
-entries = Absent ∷ Locked ∷ Burnt ∷ Minted ∷ Assigned ∷ Released ∷ []
 
 -- what the origin's side keeps, by the kinds in its tale
 abbrev pub origin_list : Bool → Bool → Bool → Bool → Bool → Done → Option Way → Entry → List (Unit {0} → Bool)
@@ -87,11 +77,6 @@ recipient_parts prepare ready final ack reject roll roll_ack d w e = all_then (r
 abbrev pub recipient_test : List Kind → Done → Option Way → Entry → Bool
 recipient_test t d w e =
     recipient_parts (has CommitPrepare t) (has CommitReady t) (has CommitFinal t) (has CommitFinalAck t) (has Reject t) (has Rollback t) (has RollbackAck t) d w e
-
-abbrev pub dones : List Done
-dones =
-    bind bools (λ l. bind bools (λ b. bind bools (λ m. bind bools (λ a. bind bools (λ r.
-    record { lock = l; burn = b; mint = m; assign = a; release = r } ∷ [])))))
 
 -- whose view it is, and its terms: no test looks at them
 abbrev pub Head : Type 0

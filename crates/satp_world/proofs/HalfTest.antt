@@ -17,7 +17,7 @@ use Rattle.satp_base.specs.declared.record.Next.TheVariants.{Append, Act, Wait, 
 use Rattle.satp_base.specs.Tales.{has, maker, is_role, is_whole, other}
 use Rattle.satp_base.specs.declared.view.View.{View}
 use Rattle.satp_base.specs.Roles.{both, either, negate, no_way, next_of}
-use Rattle.satp_world.specs.Sessions.{Half, after_record, with_entry, can_do, entry_is}
+use Rattle.satp_sides.specs.Halves.{Half, after_record, with_entry, can_do, entry_is}
 use Rattle.satp_world.specs.Deal.{Deal, Decision}
 use Rattle.satp_base.proofs.Finite.{andthen, orelse, implies, same_bool, all_of}
 use Rattle.satp_base.proofs.TaleTable.{begun_tales}

@@ -19,7 +19,7 @@ use Rattle.satp_base.specs.declared.session.SessionId.{SessionId}
 use Rattle.satp_world.specs.Examples.{first_book}
 use Rattle.satp_world.specs.Ledgers.{AgreedIsAnswered, IsAnswered, IsLedger, IsShown}
 use Rattle.satp_world.specs.Ledgers.IsLedger.{Founded, Acted}
-use Rattle.satp_world.specs.Sessions.{can_do, entry_is}
+use Rattle.satp_sides.specs.Halves.{can_do, entry_is}
 use Rattle.satp_world.proofs.DealSteps.{entry-is}
 use Rattle.satp_world.proofs.Endings.{alpha, amount, ann, beta, can_lock, can_mint, gold, moves_to, no-entry, no-sum, quarter, with_gold}
 use Rattle.satp_world.proofs.RuleMoves.{entry-moved}

@@ -12,10 +12,8 @@ pub mod Safety
 pub mod SafeTest
 pub mod SafeCheck
 pub mod SafeLaw
-pub mod Records
 pub mod RuleMoves
-pub mod Chained
-pub mod Growth
+pub mod Tied
 pub mod PairLaw
 pub mod EntryLaw
 pub mod FreshTest
@@ -27,5 +25,8 @@ pub mod LedgerLaw
 pub mod Amounts
 pub mod Books
 pub mod TotalLaw
+pub mod KeptLaw
 pub mod Limits
+pub mod SenderLaw
+pub mod RoomLaw
 pub mod WorldLaw

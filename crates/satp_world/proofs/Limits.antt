@@ -21,20 +21,30 @@ use Rattle.satp_base.specs.declared.record.Rec.{Rec}
 use Rattle.satp_base.specs.declared.record.Rec.TheVariants.{Began, Took, Made, Did, Chose, Rescue}
 use Rattle.satp_base.specs.declared.session.SessionId.{SessionId}
 use Rattle.satp_base.specs.declared.view.View.{View}
-use Rattle.satp_world.specs.Sessions.{HasMint, tale_of}
-use Rattle.satp_world.specs.Worlds.{Gateway, IsNote, IsSafeWorld, opposite, Reached, Sayable, Setting, Side, SideMoves, Stored, Text, World, WorldMoves, begun, began_as, chain_in, last_texts, message_from, most_sessions, name_at, recipient_for, session_in, side_at, with_side, records_of, view_in}
+use Rattle.satp_world.specs.Sessions.{HasMint}
+use Rattle.satp_world.specs.Worlds.{Gateway, IsSafeWorld, opposite, Reached, party_at, Setting, World, WorldMoves, name_at, session_in, side_at, with_side}
 use Rattle.satp_world.specs.Worlds.Gateway.{A, B}
 use Rattle.satp_world.specs.Worlds.Reached.{Begins, Goes}
-use Rattle.satp_world.specs.Worlds.Sayable.{Own_text, Recovers, Updates, Succeeds, Knows_none}
-use Rattle.satp_world.specs.Worlds.SideMoves.{Proposes, Accepts, Takes, Makes, Notes, Acts, Says, Stops}
+use Rattle.satp_sides.specs.Moves.Sayable.{Own_text, Recovers, Updates, Succeeds, Knows_none}
+use Rattle.satp_sides.specs.Logs.{MayCome}
+use Rattle.satp_sides.specs.Logs.MayCome.{Starts, Accepts, Takes, Makes, Notes}
+use Rattle.satp_sides.specs.Moves.SideMoves.{Moves, Stops}
+use Rattle.satp_sides.specs.Points.Move.{Appends, Acts, Says}
 use Rattle.satp_world.specs.Worlds.WorldMoves.{By}
 use Rattle.satp_world.specs.Limits.{WasAsked, IsLimited, IsOneOf, LawLimits}
 use Rattle.satp_base.proofs.TaleTable.{tale-short}
-use Rattle.satp_world.proofs.Chained.{message-of}
+use Rattle.satp_sides.proofs.Chained.{message-of}
 use Rattle.satp_world.proofs.PairLaw.{role-is}
-use Rattle.satp_world.proofs.Records.{chain-none, view-none}
+use Rattle.satp_sides.proofs.Records.{chain-none, view-none}
+use Rattle.satp_sides.proofs.Bounds.{logs-bounded}
+use Rattle.satp_sides.proofs.SaidLaw.{last-of}
+use Rattle.satp_world.proofs.KeptLaw.{logs-kept}
 use Rattle.satp_world.proofs.WorldLaw.{law_safety}
 use Rattle.satp_base.proofs.SignatureLemmas.{own_shows}
+use Rattle.satp_sides.specs.Logs.{IsNote}
+use Rattle.satp_base.specs.declared.message.Link.{Link}
+use Rattle.satp_sides.specs.Moves.{Among, Sayable, SideMoves, last_texts, message_from}
+use Rattle.satp_sides.specs.Points.{Party, with_record, tale_of, Side, Stored, Text, begun, began_as, chain_in, most_sessions, recipient_at, records_of, view_in}
 
 -- ---- no early burn
 
@@ -48,10 +58,10 @@ no-burn st a b w r g s h _ (By q side bag m) n e = by_sides g q m h n e
     before : (g : Gateway) → s.gateway ≡ name_at st g → (session_in w g s).a_entry ≡ Burnt → has CommitReady (tale_of (session_in w g s).b) ≡ false → ⊥
     before g h e n = cc (mint-ready _ (((law_safety st a b w r).safe g s h).burnt_behind_the_mint e), n)
 
-    behind : (g q : Gateway) → SideMoves st q (side_at w q) w.bag side bag → s.gateway ≡ name_at st g → (session_in (with_side w q side bag) g s).a_entry ≡ Burnt → has CommitReady (tale_of (session_in (with_side w q side bag) g s).b) ≡ false → ⊥
+    behind : (g q : Gateway) → SideMoves (party_at st q) (side_at w q) w.bag side bag → s.gateway ≡ name_at st g → (session_in (with_side w q side bag) g s).a_entry ≡ Burnt → has CommitReady (tale_of (session_in (with_side w q side bag) g s).b) ≡ false → ⊥
     behind g q m h e n = cc (mint-ready _ (((law_safety st a b (with_side w q side bag) (Goes w _ r (By q side bag m))).safe g s h).burnt_behind_the_mint e), n)
 
-    by_sides : (g q : Gateway) → SideMoves st q (side_at w q) w.bag side bag → s.gateway ≡ name_at st g → has CommitReady (tale_of (session_in w g s).b) ≡ false → (session_in (with_side w q side bag) g s).a_entry ≡ Burnt → ⊥
+    by_sides : (g q : Gateway) → SideMoves (party_at st q) (side_at w q) w.bag side bag → s.gateway ≡ name_at st g → has CommitReady (tale_of (session_in w g s).b) ≡ false → (session_in (with_side w q side bag) g s).a_entry ≡ Burnt → ⊥
     by_sides A A m h n e = behind A A m h e n
     by_sides B B m h n e = behind B B m h e n
     by_sides A B m h n e = before A h e n
@@ -71,41 +81,50 @@ whose st w k g s v e = elim (k.named g s v e) [ inl h ↦ inl (role-is Origin _ 
     as_recipient B h e = role-is Recipient (view_in s w.b.records) (view_in s w.a.records) v (entry_of w.b.book.entries s) (entry_of w.a.book.entries s) e (k.stands A s h)
 
 -- a message at a place of this side is from this gateway to the other one
-from-here : (st : Setting) (g : Gateway) (s : SessionId) (role : Role) (n : ℕ) → WhoseRole st g s role → role_at n ≡ role → name_of s (recipient_for st g role) (role_at n) ≡ name_at st g
-from-here st g s role n (inl h) p = ap (name_of s (recipient_for st g role)) (p ∙ h.0) ∙ h.1
-from-here st g s role n (inr h) p = ap (name_of s (recipient_for st g role)) (p ∙ h.0) ∙ ap (recipient_for st g) h.0
+from-here : (st : Setting) (g : Gateway) (s : SessionId) (role : Role) (n : ℕ) → WhoseRole st g s role → role_at n ≡ role → name_of s (recipient_at (party_at st g) role) (role_at n) ≡ name_at st g
+from-here st g s role n (inl h) p = ap (name_of s (recipient_at (party_at st g) role)) (p ∙ h.0) ∙ h.1
+from-here st g s role n (inr h) p = ap (name_of s (recipient_at (party_at st g) role)) (p ∙ h.0) ∙ ap (recipient_at (party_at st g)) h.0
 
-to-there : (st : Setting) (g : Gateway) (s : SessionId) (role : Role) (n : ℕ) → WhoseRole st g s role → role_at n ≡ role → name_of s (recipient_for st g role) (other (role_at n)) ≡ name_at st (opposite g)
-to-there st g s role n (inl h) p = ap (λ r. name_of s (recipient_for st g role) (other r)) (p ∙ h.0) ∙ ap (recipient_for st g) h.0
-to-there st g s role n (inr h) p = ap (λ r. name_of s (recipient_for st g role) (other r)) (p ∙ h.0) ∙ h.1
+to-there : (st : Setting) (g : Gateway) (s : SessionId) (role : Role) (n : ℕ) → WhoseRole st g s role → role_at n ≡ role → name_of s (recipient_at (party_at st g) role) (other (role_at n)) ≡ name_at st (opposite g)
+to-there st g s role n (inl h) p = ap (λ r. name_of s (recipient_at (party_at st g) role) (other r)) (p ∙ h.0) ∙ ap (recipient_at (party_at st g)) h.0
+to-there st g s role n (inr h) p = ap (λ r. name_of s (recipient_at (party_at st g) role) (other r)) (p ∙ h.0) ∙ h.1
 
--- the last texts, by how many they are
-last-of : (n : ℕ) (texts : List Text) → last_texts n texts ≡ last_texts (length (last_texts n texts)) texts
-last-of n texts = let h = length-drop (length texts - n) texts in let same : length texts - n ≡ length texts - length (last_texts n texts) = omega (arith, h) in ap (λ k. drop k texts) same
-
-said-one : (st : Setting) (a b : Founding) (w : World) → Reached st a b w → (g : Gateway) (t : Text) → Sayable st g (side_at w g).records w.bag t → IsOneOf st w g t
+pub said-one : (st : Setting) (a b : Founding) (w : World) → Reached st a b w → (g : Gateway) (t : Text) → Sayable (party_at st g) (side_at w g).records w.bag t → IsOneOf st w g t
 said-one st a b w r g t (Own_text s v n _ e d p) =
     let k = law_safety st a b w r in
     let c = k.chains g s v e in
     let short = tale-short _ c.chain.tale in
-    let m = message-of s (recipient_for st g v.role) st.key (Proposal v.terms ∷ c.rest) n t (omega (arith, short, length-map (Proposal v.terms ∷ c.rest) part_kind)) c.chain.formed (ap (λ ts. slice_get ts n) (sym c.chain.each) ∙ d) in
+    let m = message-of s (recipient_at (party_at st g) v.role) st.key (Proposal v.terms ∷ c.rest) n t (omega (arith, short, length-map (Proposal v.terms ∷ c.rest) part_kind)) c.chain.formed (ap (λ ts. slice_get ts n) (sym c.chain.each) ∙ d) in
     let role = whose st w k g s v e in
     record {
-      message = message_at s (recipient_for st g v.role) (n + 1) m.previous m.part;
+      message = message_at s (recipient_at (party_at st g) v.role) (n + 1) m.previous m.part;
       formed = m.formed;
       text = m.text;
       sender = from-here st g s v.role (n + 1) role p;
       receiver = to-there st g s v.role (n + 1) role p;
       says = (n, refl, d);
     }
-said-one st a b w r g _ (Recovers s v e f) = record { message = message_from st g s (body.Recover (length (chain_in s (side_at w g).records)) (head_of (chain_in s (side_at w g).records)).last); formed = f; text = refl; sender = refl; receiver = refl; says = (refl, refl) }
-said-one st a b w r g _ (Updates s v n e c f) = record { message = message_from st g s (body.Update (length (chain_in s (side_at w g).records)) (last_texts n (chain_in s (side_at w g).records))); formed = f; text = refl; sender = refl; receiver = refl; says = (refl, last-of n (chain_in s (side_at w g).records)) }
-said-one st a b w r g _ (Succeeds s v e f) = record { message = message_from st g s (body.Success (length (chain_in s (side_at w g).records)) (head_of (chain_in s (side_at w g).records)).last); formed = f; text = refl; sender = refl; receiver = refl; says = (refl, refl) }
+said-one st a b w r g _ (Recovers s v e f) = record { message = message_from (party_at st g) s (body.Recover (length (chain_in s (side_at w g).records)) (head_of (chain_in s (side_at w g).records)).last); formed = f; text = refl; sender = refl; receiver = refl; says = (refl, refl) }
+said-one st a b w r g _ (Updates s v n e c f) = record { message = message_from (party_at st g) s (body.Update (length (chain_in s (side_at w g).records)) (last_texts n (chain_in s (side_at w g).records))); formed = f; text = refl; sender = refl; receiver = refl; says = (refl, last-of n (chain_in s (side_at w g).records)) }
+said-one st a b w r g _ (Succeeds s v e f) = record { message = message_from (party_at st g) s (body.Success (length (chain_in s (side_at w g).records)) (head_of (chain_in s (side_at w g).records)).last); formed = f; text = refl; sender = refl; receiver = refl; says = (refl, refl) }
 said-one st a b w r g _ (Knows_none m n l p e f q i k z) =
     let none = sym (chain-none m.session (side_at w g).records e) in
-    record { message = message_from st g m.session (body.Update 0 []); formed = z; text = refl; sender = refl; receiver = refl; says = (ap length none, ap (last_texts 0) none) }
+    record { message = message_from (party_at st g) m.session (body.Update 0 []); formed = z; text = refl; sender = refl; receiver = refl; says = (ap length none, ap (last_texts 0) none) }
 
-idle : (st : Setting) (g : Gateway) (s : SessionId) → IsMessage (message_from st g s (body.Update 0 []))
+-- the session of what is said is one that the records name, or the peer asked for it
+pub data IsSaidOf (st : Setting) (w : World) (g : Gateway) (t : Text) (m : Message) : Type 0 where
+  Named : (v : View) → view_in m.session (side_at w g).records ≡ Some v → IsSaidOf st w g t m
+  Asked : (asked : Message) (n : ℕ) (last : Link) → IsMessage asked → asked.session ≡ m.session → asked.receiver ≡ name_at st g → asked.body ≡ body.Recover n last → Among (own st.key asked) w.bag → m.body ≡ body.Update 0 [] → IsSaidOf st w g t m
+
+pub said-of-session : (st : Setting) (a b : Founding) (w : World) (r : Reached st a b w) (g : Gateway) (t : Text) (z : Sayable (party_at st g) (side_at w g).records w.bag t) → IsSaidOf st w g t (said-one st a b w r g t z).message
+unfolding said-one
+said-of-session st a b w r g t (Own_text s v n _ e d p) = Named v e
+said-of-session st a b w r g _ (Recovers s v e f) = Named v e
+said-of-session st a b w r g _ (Updates s v n e c f) = Named v e
+said-of-session st a b w r g _ (Succeeds s v e f) = Named v e
+said-of-session st a b w r g _ (Knows_none m n l p e f q i k z) = Asked m n l f refl q i k refl
+
+idle : (st : Setting) (g : Gateway) (s : SessionId) → IsMessage (message_from (party_at st g) s (body.Update 0 []))
 idle st g s = ((omega arith, refl), tt)
 
 same-message : (st : Setting) (m n : Message) (t : Text) → IsMessage m → IsMessage n → t ≡ own st.key m → t ≡ own st.key n → m ≡ n
@@ -115,95 +134,33 @@ same-message st m n t f h d e = own_shows st.key st.key m n f h (sym d ∙ e)
 said-body : (m n : Message) → m ≡ n → m.body ≡ n.body
 said-body m n e = ap (λ (x : Message). x.body) e
 
-asked-by : (st : Setting) (a b : Founding) (w : World) → Reached st a b w → (g : Gateway) (s : SessionId) (t : Text) → records_of s (side_at w g).records ≡ [] → t ≡ own st.key (message_from st g s (body.Update 0 [])) → Sayable st g (side_at w g).records w.bag t → WasAsked st w g s
+asked-by : (st : Setting) (a b : Founding) (w : World) → Reached st a b w → (g : Gateway) (s : SessionId) (t : Text) → records_of s (side_at w g).records ≡ [] → t ≡ own st.key (message_from (party_at st g) s (body.Update 0 [])) → Sayable (party_at st g) (side_at w g).records w.bag t → WasAsked st w g s
 asked-by st a b w r g s t none q (Own_text z v n _ e d p) =
     let c = (law_safety st a b w r).chains g z v e in
     let short = tale-short _ c.chain.tale in
-    let m = message-of z (recipient_for st g v.role) st.key (Proposal v.terms ∷ c.rest) n t (omega (arith, short, length-map (Proposal v.terms ∷ c.rest) part_kind)) c.chain.formed (ap (λ ts. slice_get ts n) (sym c.chain.each) ∙ d) in
-    let x = said-body _ _ (same-message st (message_at z (recipient_for st g v.role) (n + 1) m.previous m.part) (message_from st g s (body.Update 0 [])) t m.formed (idle st g s) m.text q) in
+    let m = message-of z (recipient_at (party_at st g) v.role) st.key (Proposal v.terms ∷ c.rest) n t (omega (arith, short, length-map (Proposal v.terms ∷ c.rest) part_kind)) c.chain.formed (ap (λ ts. slice_get ts n) (sym c.chain.each) ∙ d) in
+    let x = said-body _ _ (same-message st (message_at z (recipient_at (party_at st g) v.role) (n + 1) m.previous m.part) (message_from (party_at st g) s (body.Update 0 [])) t m.formed (idle st g s) m.text q) in
     absurd (cc x)
 asked-by st a b w r g s _ none q (Recovers z v e f) =
-    let x = said-body _ _ (same-message st (message_from st g z (body.Recover (length (chain_in z (side_at w g).records)) (head_of (chain_in z (side_at w g).records)).last)) (message_from st g s (body.Update 0 [])) _ f (idle st g s) refl q) in
+    let x = said-body _ _ (same-message st (message_from (party_at st g) z (body.Recover (length (chain_in z (side_at w g).records)) (head_of (chain_in z (side_at w g).records)).last)) (message_from (party_at st g) s (body.Update 0 [])) _ f (idle st g s) refl q) in
     absurd (cc x)
 asked-by st a b w r g s _ none q (Updates z v n e c f) =
-    let x = same-message st (message_from st g z (body.Update (length (chain_in z (side_at w g).records)) (last_texts n (chain_in z (side_at w g).records)))) (message_from st g s (body.Update 0 [])) _ f (idle st g s) refl q in
+    let x = same-message st (message_from (party_at st g) z (body.Update (length (chain_in z (side_at w g).records)) (last_texts n (chain_in z (side_at w g).records)))) (message_from (party_at st g) s (body.Update 0 [])) _ f (idle st g s) refl q in
     let here = ap (λ y. view_in y (side_at w g).records) (sym (ap (λ (y : Message). y.session) x)) ∙ e in
     absurd (cc (sym (view-none s (side_at w g).records none) ∙ here))
 asked-by st a b w r g s _ none q (Succeeds z v e f) =
-    let x = said-body _ _ (same-message st (message_from st g z (body.Success (length (chain_in z (side_at w g).records)) (head_of (chain_in z (side_at w g).records)).last)) (message_from st g s (body.Update 0 [])) _ f (idle st g s) refl q) in
+    let x = said-body _ _ (same-message st (message_from (party_at st g) z (body.Success (length (chain_in z (side_at w g).records)) (head_of (chain_in z (side_at w g).records)).last)) (message_from (party_at st g) s (body.Update 0 [])) _ f (idle st g s) refl q) in
     absurd (cc x)
 asked-by st a b w r g s _ none q (Knows_none m n l p e f to is i z) =
-    let x = ap (λ (y : Message). y.session) (same-message st (message_from st g m.session (body.Update 0 [])) (message_from st g s (body.Update 0 [])) _ z (idle st g s) refl q) in
+    let x = ap (λ (y : Message). y.session) (same-message st (message_from (party_at st g) m.session (body.Update 0 [])) (message_from (party_at st g) s (body.Update 0 [])) _ z (idle st g s) refl q) in
     record { of_the_peer = ap (λ (y : SessionId). y.gateway) (sym x) ∙ p; message = m; formed = f; of_it = x; to_it = to; length = n; last = l; recover = is; said = i }
 
-nothing-first : (st : Setting) (g : Gateway) (t : Text) → Sayable st g [] [] t → ⊥
+nothing-first : (st : Setting) (g : Gateway) (t : Text) → Sayable (party_at st g) [] [] t → ⊥
 nothing-first st g t (Own_text s v n _ e d p) = absurd (cc e)
 nothing-first st g _ (Recovers s v e f) = absurd (cc e)
 nothing-first st g _ (Updates s v n e c f) = absurd (cc e)
 nothing-first st g _ (Succeeds s v e f) = absurd (cc e)
 nothing-first st g _ (Knows_none m n l p e f q i k z) = elim k [ ]
-
--- ---- begun sessions
-
-begun-more : (role : Role) (xs : List Stored) (x : Stored) → begun role (xs ++ x ∷ []) ≡ length (filter (λ (y : Stored). began_as role y.rec) xs ++ cond (began_as role x.rec) (x ∷ []) [])
-begun-more role xs x = ap length (filter-append (λ y. began_as role y.rec) xs (x ∷ []))
-
-not-begun : (role : Role) (xs : List Stored) (x : Stored) → began_as role x.rec ≡ false → begun role (xs ++ x ∷ []) ≡ begun role xs
-not-begun role xs x n = begun-more role xs x ∙ ap (λ b. length (filter (λ (y : Stored). began_as role y.rec) xs ++ cond b (x ∷ []) [])) n ∙ ap length (append-nil (filter (λ (y : Stored). began_as role y.rec) xs))
-
-one-begun : (role : Role) (xs : List Stored) (x : Stored) → begun role (xs ++ x ∷ []) ≤ begun role xs + 1
-one-begun role xs x = go (began_as role x.rec) refl
-  where
-    go : (b : Bool) → began_as role x.rec ≡ b → begun role (xs ++ x ∷ []) ≤ begun role xs + 1
-    go false n = let h = not-begun role xs x n in omega (arith, h)
-    go true y =
-        let h = begun-more role xs x ∙ ap (λ b. length (filter (λ (y : Stored). began_as role y.rec) xs ++ cond b (x ∷ []) [])) y in
-        let p = length_push (filter (λ (y : Stored). began_as role y.rec) xs) x in
-        omega (arith, h, p)
-
-abbrev Bounded : Side → Type 0
-Bounded side = (role : Role) → begun role side.records ≤ most_sessions
-
-bounded-begun : (side : Side) (mine : Role) (x : Stored) → Bounded side → (began_as (other mine) x.rec ≡ false) → begun mine side.records < most_sessions → (role : Role) → begun role (side.records ++ x ∷ []) ≤ most_sessions
-bounded-begun side Origin x old n room Origin = let h = one-begun Origin side.records x in omega (arith, h, room)
-bounded-begun side Origin x old n room Recipient = let h = not-begun Recipient side.records x n in let k = old Recipient in omega (arith, h, k)
-bounded-begun side Recipient x old n room Recipient = let h = one-begun Recipient side.records x in omega (arith, h, room)
-bounded-begun side Recipient x old n room Origin = let h = not-begun Origin side.records x n in let k = old Origin in omega (arith, h, k)
-
-bounded-else : (side : Side) (x : Stored) → Bounded side → ((role : Role) → began_as role x.rec ≡ false) → (role : Role) → begun role (side.records ++ x ∷ []) ≤ most_sessions
-bounded-else side x old n role = let h = not-begun role side.records x (n role) in let k = old role in omega (arith, h, k)
-
-note-begins-not : (r : Rec) → IsNote r → (role : Role) → began_as role r ≡ false
-note-begins-not (Began role terms) n q = absurd n
-note-begins-not (Took k) n q = absurd n
-note-begins-not (Made k) n q = absurd n
-note-begins-not (Did op) n Origin = refl
-note-begins-not (Did op) n Recipient = refl
-note-begins-not (Chose way) n Origin = refl
-note-begins-not (Chose way) n Recipient = refl
-note-begins-not Rescue n Origin = refl
-note-begins-not Rescue n Recipient = refl
-
-bounded-side : (st : Setting) (g : Gateway) (side : Side) (bag : List Text) (new : Side) (more : List Text) → SideMoves st g side bag new more → Bounded side → Bounded new
-bounded-side st g side bag _ _ (Proposes s terms n e c) old = bounded-begun side Origin _ old refl c
-bounded-side st g side bag _ _ (Accepts s terms text n e c d z) old = bounded-begun side Recipient _ old refl c
-bounded-side st g side bag _ _ (Takes s v p text e rule f d z) old = bounded-else side _ old (elim [ Origin ↦ refl | Recipient ↦ refl ])
-bounded-side st g side bag _ _ (Makes s v p e rule f) old = bounded-else side _ old (elim [ Origin ↦ refl | Recipient ↦ refl ])
-bounded-side st g side bag _ _ (Notes s v r e rule m l) old = bounded-else side _ old (note-begins-not r m)
-bounded-side st g side bag _ _ (Acts s v op answer book e due rule) old = old
-bounded-side st g side bag _ _ (Says u z) old = old
-bounded-side st g side bag _ _ Stops old = old
-
-none-begun : (role : Role) → begun role [] ≤ most_sessions
-none-begun role = omega arith
-
-bounded : (st : Setting) (a b : Founding) (w : World) → Reached st a b w → (g : Gateway) → Bounded (side_at w g)
-bounded st a b _ Begins A = none-begun
-bounded st a b _ Begins B = none-begun
-bounded st a b _ (Goes w v r (By A side bag m)) A = bounded-side st A w.a w.bag side bag m (bounded st a b w r A)
-bounded st a b _ (Goes w v r (By A side bag m)) B = bounded st a b w r B
-bounded st a b _ (Goes w v r (By B side bag m)) B = bounded-side st B w.b w.bag side bag m (bounded st a b w r B)
-bounded st a b _ (Goes w v r (By B side bag m)) A = bounded st a b w r A
 
 pub law_limits : LawLimits
 law_limits = (λ st a b w r. limited st a b w r, λ st g t z. nothing-first st g t z)
@@ -214,5 +171,5 @@ law_limits = (λ st a b w r. limited st a b w r, λ st g t z. nothing-first st g
       no_forgery = λ t g s h n previous part f e not d. not ((law_safety st a b w r).bag t d g s h n previous part f e);
       no_other_text = said-one st a b w r;
       no_idle_answer = λ g s none z. asked-by st a b w r g s _ none refl z;
-      no_more_sessions = bounded st a b w r;
+      no_more_sessions = λ g. logs-bounded (party_at st g) (side_at w g).records (logs-kept st a b w r g);
     }

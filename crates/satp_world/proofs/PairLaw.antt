@@ -26,18 +26,24 @@ use Rattle.satp_base.specs.Tales.{IsTale, other}
 use Rattle.satp_base.specs.Views.{begin, push}
 use Rattle.satp_base.specs.Roles.{RoleRule, next_of}
 use Rattle.satp_base.proofs.TaleTable.{tale-short}
-use Rattle.satp_world.specs.Sessions.{Half, half, Moves, Tied, Session, SessionMoves, SessionStands, deal_of, tale_of}
+use Rattle.satp_sides.specs.Halves.{Half, half}
+use Rattle.satp_world.specs.Sessions.{Moves, Tied, Session, SessionMoves, SessionStands, deal_of}
 use Rattle.satp_world.specs.Sessions.Tied.{Same as Same_tales, Origin_ahead, Recipient_ahead}
 use Rattle.satp_world.specs.Sessions.Moves.{Takes, Acts}
 use Rattle.satp_world.specs.Sessions.SessionMoves.{Proposes, Accepts, Origin_moves, Recipient_moves}
-use Rattle.satp_world.specs.Worlds.{Side, DealGoesOn, IsNote, LedgerFits, chain_in, is_session, records_of, view_in, with_record}
-use Rattle.satp_world.proofs.Records.{session-self, view-here, view-first, view-none, view-apart}
-use Rattle.satp_world.proofs.RuleMoves.{agrees-by, note-moves, made-moves, took-rule, made-rule, entry-apart}
+use Rattle.satp_world.specs.Worlds.{DealGoesOn}
+use Rattle.satp_sides.proofs.Records.{session-self, view-here, view-first, view-none, view-apart}
+use Rattle.satp_sides.proofs.Rules.{made-rule, took-rule}
+use Rattle.satp_world.proofs.RuleMoves.{agrees-by, note-moves, made-moves, entry-apart}
 use Rattle.satp_base.proofs.Places.{maker-at}
-use Rattle.satp_world.proofs.Chained.{HalfChain, TiedParts, flip-tied, taken, long, next-formed}
-use Rattle.satp_world.proofs.Chained.TiedParts.{Same, Mine_ahead, Peer_ahead}
-use Rattle.satp_world.proofs.Growth.{half-more, half-noted, half-first, half-apart}
-use Rattle.satp_world.proofs.Growth.Carries.{As_taken, As_made}
+use Rattle.satp_sides.specs.Logs.{IsNote}
+use Rattle.satp_sides.specs.Moves.{LedgerFits}
+use Rattle.satp_sides.specs.Points.{tale_of, Side, chain_in, is_session, records_of, view_in, with_record}
+use Rattle.satp_sides.proofs.Chained.{HalfChain, long, next-formed}
+use Rattle.satp_world.proofs.Tied.{TiedParts, flip-tied, taken}
+use Rattle.satp_world.proofs.Tied.TiedParts.{Same, Mine_ahead, Peer_ahead}
+use Rattle.satp_sides.proofs.Growth.{half-more, half-noted, half-first, half-apart}
+use Rattle.satp_sides.proofs.Growth.Carries.{As_taken, As_made}
 use Rattle.satp_world.proofs.SessionLaw.{law_step}
 
 -- the session, as the side of a role and its peer see it
@@ -56,8 +62,8 @@ pub record PairStands (role : Role) (s : SessionId) (recipient : Name) (key : Li
   pub stands : SessionStands (session_of role s mine peer)
   pub my_parts : List Part
   pub peer_parts : List Part
-  pub my_chain : HalfChain s recipient key mine my_parts
-  pub peer_chain : HalfChain s recipient key peer peer_parts
+  pub my_chain : HalfChain s recipient key mine.records my_parts
+  pub peer_chain : HalfChain s recipient key peer.records peer_parts
   pub tied : TiedParts role my_parts peer_parts
 
 -- what stands behind a move, and the deal
@@ -145,7 +151,7 @@ module _ (role : Role) (s : SessionId) (recipient : Name) (key : List ℕ) (mine
           stands = subst (λ o. SessionStands (session_by role o peer_view (entry_at s mine) (entry_at s peer))) (sym view) law.stands;
           my_parts = k.my_parts;
           peer_parts = k.peer_parts;
-          my_chain = half-noted s recipient key mine k.my_parts v r [] k.my_chain q n;
+          my_chain = half-noted s recipient key mine.records k.my_parts v r [] k.my_chain q n;
           peer_chain = k.peer_chain;
           tied = k.tied;
         };
@@ -188,7 +194,7 @@ module _ (role : Role) (s : SessionId) (recipient : Name) (key : List ℕ) (mine
           stands = subst (λ o. SessionStands (session_by role o peer_view (entry_at s mine) (entry_at s peer))) (sym view) law.stands;
           my_parts = k.my_parts ++ p ∷ [];
           peer_parts = k.peer_parts;
-          my_chain = half-more s recipient key mine k.my_parts v p (Took (part_kind p)) k.my_chain q f As_taken;
+          my_chain = half-more s recipient key mine.records k.my_parts v p (Took (part_kind p)) k.my_chain q f As_taken;
           peer_chain = k.peer_chain;
           tied = Same (sym ahead);
         };
@@ -231,7 +237,7 @@ module _ (role : Role) (s : SessionId) (recipient : Name) (key : List ℕ) (mine
           stands = subst (λ o. SessionStands (session_by role o peer_view (entry_at s mine) (entry_at s peer))) (sym view) law.stands;
           my_parts = k.my_parts ++ p ∷ [];
           peer_parts = k.peer_parts;
-          my_chain = half-more s recipient key mine k.my_parts v p (Made (part_kind p)) k.my_chain q f As_made;
+          my_chain = half-more s recipient key mine.records k.my_parts v p (Made (part_kind p)) k.my_chain q f As_made;
           peer_chain = k.peer_chain;
           tied = grows k.my_parts k.peer_parts p k.tied place (omega (arith, near, length_push v.tale (part_kind p), my_length, ap length k.peer_chain.tale, length-map k.peer_parts part_kind));
         };
@@ -252,7 +258,7 @@ module _ (role : Role) (s : SessionId) (recipient : Name) (key : List ℕ) (mine
           stands = subst (λ o. SessionStands (session_by role o peer_view (entry_at s mine) (entry_at s peer))) (sym view) k.stands;
           my_parts = k.my_parts;
           peer_parts = k.peer_parts;
-          my_chain = half-apart s t recipient key mine k.my_parts r text n k.my_chain;
+          my_chain = half-apart s t recipient key mine.records k.my_parts r text n k.my_chain;
           peer_chain = k.peer_chain;
           tied = k.tied;
         };
@@ -304,7 +310,7 @@ proposed s recipient key mine peer terms k q =
         stands = subst (λ o. SessionStands (session_by Origin o (view_in s peer.records) (entry_at s mine) (entry_at s peer))) (sym view) law.stands;
         my_parts = Proposal terms ∷ [];
         peer_parts = k.peer_parts;
-        my_chain = half-first s recipient key mine Origin terms q;
+        my_chain = half-first s recipient key mine.records Origin terms q;
         peer_chain = k.peer_chain;
         tied = Mine_ahead (Proposal terms) (ap (λ (ps : List Part). role_at (length ps + 1)) nothing) (ap (λ (ps : List Part). ps ++ Proposal terms ∷ []) (sym nothing));
       };
@@ -350,7 +356,7 @@ accepted s recipient key mine peer terms k q d = by_peer (view_in s peer.records
             stands = subst (λ o. SessionStands (session_by Recipient o (view_in s peer.records) (entry_at s mine) (entry_at s peer))) (sym view) law.stands;
             my_parts = Proposal terms ∷ [];
             peer_parts = k.peer_parts;
-            my_chain = half-first s recipient key mine Recipient terms q;
+            my_chain = half-first s recipient key mine.records Recipient terms q;
             peer_chain = k.peer_chain;
             tied = Same (sym ahead);
           };

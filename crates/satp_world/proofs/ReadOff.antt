@@ -26,12 +26,19 @@ use Rattle.satp_base.specs.declared.view.View.{View}
 use Rattle.satp_base.proofs.Finite.{all_of, all_of-at, implies-use}
 use Rattle.satp_base.proofs.RoleLemmas.{after-chose}
 use Rattle.satp_base.proofs.TaleTable.{kind_eq-is}
+use Rattle.satp_sides.specs.Moves.{SideMoves}
+use Rattle.satp_sides.specs.Points.{tale_of, Side, Stored, Text, is_session, records_of, view_in, with_record}
 use Rattle.satp_world.specs.Deal.{Decision}
-use Rattle.satp_world.specs.Sessions.{Half, half, SessionStands, deal_of, tale_of, way_of}
-use Rattle.satp_world.specs.Worlds.{Gateway, Reached, Setting, Side, SideMoves, Stored, Text, World, as_deal, chose_back, chose_commit, holds, is_session, made_ready, name_at, opposite, records_of, session_in, side_at, view_in, with_record}
+use Rattle.satp_sides.specs.Halves.{Half, half}
+use Rattle.satp_world.specs.Sessions.{SessionStands, deal_of, way_of}
+use Rattle.satp_world.specs.Worlds.{Gateway, Reached, Setting, party_at, World, as_deal, chose_back, chose_commit, holds, made_ready, name_at, opposite, session_in, side_at}
 use Rattle.satp_world.specs.Worlds.Gateway.{A, B}
 use Rattle.satp_world.specs.Worlds.Reached.{Begins, Goes}
-use Rattle.satp_world.specs.Worlds.SideMoves.{Proposes, Accepts, Takes, Makes, Notes, Acts, Says, Stops}
+use Rattle.satp_sides.specs.Logs.MayCome.{Starts, Accepts, Takes, Makes, Notes}
+use Rattle.satp_sides.specs.Logs.{MayCome}
+use Rattle.satp_sides.specs.Points.{Party}
+use Rattle.satp_sides.specs.Moves.SideMoves.{Moves, Stops}
+use Rattle.satp_sides.specs.Points.Move.{Appends, Acts, Says}
 use Rattle.satp_world.specs.Worlds.WorldMoves.{By}
 use Rattle.satp_world.proofs.HalfComplete.{head_of}
 use Rattle.satp_world.proofs.HalfTable.{origins, recipients}
@@ -41,8 +48,8 @@ use Rattle.satp_world.proofs.StepLaw.{origin-in, recipient-in}
 use Rattle.satp_world.proofs.StepLaw as step
 use Rattle.satp_world.proofs.TaleSteps.{begun-in}
 use Rattle.satp_world.proofs.PairLaw.{role-is, session_by}
-use Rattle.satp_world.proofs.Records.{is-session, records-apart, records-here, view-apart, view-first, view-here}
-use Rattle.satp_world.proofs.RuleMoves.{took-rule}
+use Rattle.satp_sides.proofs.Records.{is-session, records-apart, records-here, view-apart, view-first, view-here}
+use Rattle.satp_sides.proofs.Rules.{took-rule}
 
 -- ---- a decision comes only where none was made
 
@@ -194,15 +201,18 @@ first-at role s side t mine terms text tells e = go (is_session s t) refl
         (subst (TellsOf role (record { session = t; rec = Began mine terms; text = text } ∷ [])) (sym (view-first s side.records (record { session = t; rec = Began mine terms; text = text }) y none))
         (record { commit = refl; back = refl; ready = λ q. refl }))
 
-side-tells : (st : Setting) (q : Gateway) (side : Side) (bag : List Text) (new : Side) (more : List Text) → SideMoves st q side bag new more → (role : Role) (s : SessionId) → Stood role s side → TellsAt role s side → TellsAt role s new
-side-tells st q side bag _ _ (Proposes t terms n e c) role s stood tells = first-at role s side t Origin terms _ tells e
-side-tells st q side bag _ _ (Accepts t terms text n e c d z) role s stood tells = first-at role s side t Recipient terms text tells e
-side-tells st q side bag _ _ (Takes t v p text e rule f d z) role s stood tells = more-at role s side t (Took (part_kind p)) text v stood tells e rule
-side-tells st q side bag _ _ (Makes t v p e rule f) role s stood tells = more-at role s side t (Made (part_kind p)) _ v stood tells e rule
-side-tells st q side bag _ _ (Notes t v r e rule m l) role s stood tells = more-at role s side t r [] v stood tells e rule
-side-tells st q side bag _ _ (Acts t v op answer book e due rule) role s stood tells = tells
-side-tells st q side bag _ _ (Says u z) role s stood tells = tells
-side-tells st q side bag _ _ Stops role s stood tells = tells
+record-tells : (p : Party) (side : Side) (x : Stored) → MayCome p side.records x → (role : Role) (s : SessionId) → Stood role s side → TellsAt role s side → TellsAt role s (with_record side x.session x.rec x.text)
+record-tells p side _ (Starts t terms n e c) role s stood tells = first-at role s side t Origin terms _ tells e
+record-tells p side _ (Accepts t terms n e c) role s stood tells = first-at role s side t Recipient terms _ tells e
+record-tells p side _ (Takes t v part e rule f) role s stood tells = more-at role s side t (Took (part_kind part)) _ v stood tells e rule
+record-tells p side _ (Makes t v part e rule f) role s stood tells = more-at role s side t (Made (part_kind part)) _ v stood tells e rule
+record-tells p side _ (Notes t v r e rule m) role s stood tells = more-at role s side t r [] v stood tells e rule
+
+side-tells : (p : Party) (side : Side) (bag : List Text) (new : Side) (more : List Text) → SideMoves p side bag new more → (role : Role) (s : SessionId) → Stood role s side → TellsAt role s side → TellsAt role s new
+side-tells p side bag _ _ (Moves (Appends x) m) role s stood tells = record-tells p side x m.may_come role s stood tells
+side-tells p side bag _ _ (Moves (Acts t op terms) m) role s stood tells = tells
+side-tells p side bag _ _ (Moves (Says u) m) role s stood tells = tells
+side-tells p side bag _ _ Stops role s stood tells = tells
 
 -- ---- both sides
 
@@ -232,16 +242,16 @@ both-tell st a b all _ Begins A s h = record { origin = refl; recipient = refl }
 both-tell st a b all _ Begins B s h = record { origin = refl; recipient = refl }
 both-tell st a b all _ (Goes w v r (By A side bag m)) A s h =
     let old = both-tell st a b all w r A s h in
-    record { origin = side-tells st A w.a w.bag side bag m Origin s (λ v e. stood-by Origin _ _ _ _ (all w r A s h) v e) old.origin; recipient = old.recipient }
+    record { origin = side-tells (party_at st A) w.a w.bag side bag m Origin s (λ v e. stood-by Origin _ _ _ _ (all w r A s h) v e) old.origin; recipient = old.recipient }
 both-tell st a b all _ (Goes w v r (By B side bag m)) A s h =
     let old = both-tell st a b all w r A s h in
-    record { origin = old.origin; recipient = side-tells st B w.b w.bag side bag m Recipient s (λ v e. stood-by Recipient _ _ _ _ (all w r A s h) v e) old.recipient }
+    record { origin = old.origin; recipient = side-tells (party_at st B) w.b w.bag side bag m Recipient s (λ v e. stood-by Recipient _ _ _ _ (all w r A s h) v e) old.recipient }
 both-tell st a b all _ (Goes w v r (By B side bag m)) B s h =
     let old = both-tell st a b all w r B s h in
-    record { origin = side-tells st B w.b w.bag side bag m Origin s (λ v e. stood-by Origin _ _ _ _ (all w r B s h) v e) old.origin; recipient = old.recipient }
+    record { origin = side-tells (party_at st B) w.b w.bag side bag m Origin s (λ v e. stood-by Origin _ _ _ _ (all w r B s h) v e) old.origin; recipient = old.recipient }
 both-tell st a b all _ (Goes w v r (By A side bag m)) B s h =
     let old = both-tell st a b all w r B s h in
-    record { origin = old.origin; recipient = side-tells st A w.a w.bag side bag m Recipient s (λ v e. stood-by Recipient _ _ _ _ (all w r B s h) v e) old.recipient }
+    record { origin = old.origin; recipient = side-tells (party_at st A) w.a w.bag side bag m Recipient s (λ v e. stood-by Recipient _ _ _ _ (all w r B s h) v e) old.recipient }
 
 commit-of : (role : Role) (xs : List Stored) (o : Option View) → TellsOf role xs o → holds chose_commit xs ≡ is_commit (way_of o)
 commit-of role xs None t = ap (holds chose_commit) t

@@ -26,10 +26,13 @@ use Rattle.satp_base.specs.Roles.{RoleRule, either, next_of, After}
 use Rattle.satp_base.specs.Roles.RoleRule.{Due, Answered, Free}
 use Rattle.satp_base.proofs.RoleLemmas.{role-gives, after-shape, makes-is}
 use Rattle.satp_base.proofs.SessionLemmas.{sessions_total}
-use Rattle.satp_world.specs.Sessions.{Moves, Agrees, can_do, entry_is}
+use Rattle.satp_sides.specs.Logs.{IsNote}
+use Rattle.satp_sides.specs.Moves.{LedgerFits}
+use Rattle.satp_sides.specs.Points.{is_session}
+use Rattle.satp_sides.specs.Halves.{Agrees, can_do, entry_is}
+use Rattle.satp_world.specs.Sessions.{Moves}
 use Rattle.satp_world.specs.Sessions.Moves.{Appends, Learns, Decides}
-use Rattle.satp_world.specs.Worlds.{IsNote, LedgerFits, is_session}
-use Rattle.satp_world.proofs.Records.{session-self}
+use Rattle.satp_sides.proofs.Records.{session-self}
 
 -- ---- the ledger's rule, at the entry of the session
 
@@ -86,42 +89,6 @@ made-moves role v e peer k (Due d) = Appends (Made k) d
 made-moves role v e peer k (Answered op a d x) = elim (after-shape op a (Made k) x) [ inl q ↦ absurd (cc q) | inr q ↦ absurd (cc q.1) ]
 made-moves Origin v e peer k (Free o) = absurd o
 made-moves Recipient v e peer k (Free o) = absurd o
-
-takes_not : Next → Bool
-takes_not (Append (Took k)) = false
-takes_not _ = true
-
-never_takes : (role : Role) (v : View) → takes_not (next_of role v) ≡ true
-unfolding takes_not
-never_takes Origin v = role-gives takes_not Origin v refl refl
-never_takes Recipient v = role-gives takes_not Recipient v refl refl
-
-no_take : (role : Role) (v : View) (k : Kind) → next_of role v ≡ Append (Took k) → ⊥
-unfolding takes_not
-no_take role v k e = let h = subst (λ n. takes_not n ≡ true) e (never_takes role v) in cc h
-
-pub took-rule : (role : Role) (v : View) (k : Kind) → RoleRule role v (Took k) → (maker k ≡ Some (other role)) × IsTale (v.tale ++ k ∷ [])
-took-rule role v k (Due e) = absurd (no_take role v k e)
-took-rule role v k (Answered op a e x) = elim (after-shape op a (Took k) x) [ inl q ↦ absurd (cc q) | inr q ↦ absurd (cc q.1) ]
-took-rule Origin v k (Free o) = o
-took-rule Recipient v k (Free o) = o
-
-own_made : Role → Next → Bool
-own_made role (Append (Made k)) = makes role k
-own_made role _ = true
-
-made_own : (role : Role) (v : View) → own_made role (next_of role v) ≡ true
-unfolding own_made
-made_own Origin v = role-gives (own_made Origin) Origin v refl refl
-made_own Recipient v = role-gives (own_made Recipient) Recipient v refl refl
-
--- what a side makes is of its own kinds
-pub made-rule : (role : Role) (v : View) (k : Kind) → RoleRule role v (Made k) → maker k ≡ Some role
-unfolding own_made
-made-rule role v k (Due e) = makes-is role k (subst (λ n. own_made role n ≡ true) e (made_own role v))
-made-rule role v k (Answered op a e x) = elim (after-shape op a (Made k) x) [ inl q ↦ absurd (cc q) | inr q ↦ absurd (cc q.1) ]
-made-rule Origin v k (Free o) = absurd o
-made-rule Recipient v k (Free o) = absurd o
 
 moved-apart : (b : Book) (op : LedgerOp) (t : SessionId) (terms : Terms) (s : SessionId) → is_session s t ≡ false → entry_of (moved b op t terms).entries s ≡ entry_of b.entries s
 moved-apart b op t terms s n = ap (λ o. option_map_or (λ (k : LedgerEntry). k.entry) o Absent) (get-insert sessions_total b.entries t (record { entry = result_of op; terms = terms_of b.entries t terms }) s ∙ ap (λ x. cond x (Some (record { entry = result_of op; terms = terms_of b.entries t terms })) (get b.entries s)) n)

@@ -1,5 +1,5 @@
 -- Moves of both gateways on one session, put together: what each does to both sides' records.
-use Rattle.std.proofs.Common.{◌≡◌, ℕ, zero, suc, ◌+◌, ◌-◌, ◌≤◌, true, List, [], ◌∷◌, ◌++◌, length, drop, Some, refl, sym, ap, subst, ◌∙◌, arith}
+use Rattle.std.proofs.Common.{◌≡◌, ℕ, zero, suc, ◌+◌, ◌-◌, ◌<◌, ◌≤◌, true, List, [], ◌∷◌, ◌++◌, length, drop, Some, refl, sym, ap, subst, ◌∙◌, arith}
 use Rattle.std.specs.Prelude.{slice_get}
 use Rattle.std.proofs.lemmas.Bool.{and_from}
 use Rattle.std.proofs.lemmas.List.{length_push}
@@ -23,23 +23,29 @@ use Rattle.satp_base.specs.declared.message.Role.TheVariants.{Origin, Recipient}
 use Rattle.satp_base.specs.declared.message.Terms.{Terms}
 use Rattle.satp_base.specs.declared.record.Next.TheVariants.{Act}
 use Rattle.satp_base.specs.declared.record.Rec.{Rec}
-use Rattle.satp_base.specs.declared.record.Rec.TheVariants.{Began, Took, Made, Rescue}
+use Rattle.satp_base.specs.declared.record.Rec.TheVariants.{Began, Took, Made, Did, Chose, Rescue}
 use Rattle.satp_base.specs.declared.session.SessionId.{SessionId}
 use Rattle.satp_base.specs.declared.view.View.{View}
 use Rattle.satp_base.proofs.ChainLemmas.{link_at_formed}
-use Rattle.satp_world.specs.Worlds.{Among, IsNote, LedgerFits, Reached, Sayable, Setting, Side, Stored, Text, World, chain_in, last_texts, message_from, recipient_for, view_in}
-use Rattle.satp_world.specs.Worlds.Among.{first, later}
-use Rattle.satp_world.specs.Worlds.Delivered.{Alone, Listed}
+use Rattle.satp_sides.specs.Logs.{IsNote}
+use Rattle.satp_base.proofs.RuleLemmas.{rule-gives}
+use Rattle.satp_sides.specs.Moves.{ArrivesAs, Delivered, SideMoves, Among, LedgerFits, Sayable, last_texts, message_from}
+use Rattle.satp_sides.specs.Points.{Party, begun, most_sessions, records_of, with_record, Side, Stored, Text, chain_in, recipient_at, view_in}
+use Rattle.satp_world.specs.Worlds.{Reached, party_at, Setting, World}
+use Rattle.satp_sides.specs.Moves.Among.{first, later}
+use Rattle.satp_sides.specs.Moves.Delivered.{Alone, Listed}
 use Rattle.satp_world.specs.Worlds.Gateway.{A, B}
 use Rattle.satp_world.specs.Worlds.Reached.{Begins, Goes}
-use Rattle.satp_world.specs.Worlds.Sayable.{Own_text, Recovers, Updates, Succeeds, Knows_none}
-use Rattle.satp_world.specs.Worlds.SideMoves.{Proposes, Accepts, Takes, Makes, Notes, Acts, Says, Stops}
+use Rattle.satp_sides.specs.Moves.Sayable.{Own_text, Recovers, Updates, Succeeds, Knows_none}
+use Rattle.satp_sides.specs.Logs.MayCome.{Starts, Accepts, Takes, Makes, Notes}
+use Rattle.satp_sides.specs.Moves.SideMoves.{Moves, Stops}
+use Rattle.satp_sides.specs.Points.Move.{Appends, Acts, Says}
 use Rattle.satp_world.specs.Worlds.WorldMoves.{By}
 use Rattle.satp_world.specs.Examples.{first_book}
-use Rattle.satp_world.proofs.Records.{chain-here, get-new, session-self, view-first, view-here}
+use Rattle.satp_sides.proofs.Records.{chain-here, get-new, session-self, view-first, view-here}
 use Rattle.satp_base.proofs.TextSizes.{chain-entry}
-use Rattle.satp_world.proofs.Growth.{note-tale, no-text, one-text}
-use Rattle.satp_world.proofs.Growth.Carries.{As_made, As_taken}
+use Rattle.satp_sides.proofs.Growth.{note-tale, no-text, one-text}
+use Rattle.satp_sides.proofs.Growth.Carries.{As_made, As_taken}
 
 abbrev side : List Stored → Book → Side
 side records book = record { records = records; book = book }
@@ -49,6 +55,55 @@ both_sides ra ba rb bb bag = record { a = record { records = ra; book = ba }; b 
 
 abbrev stored : SessionId → Rec → Text → Stored
 stored s r t = record { session = s; rec = r; text = t }
+
+-- ---- moves from their parts
+
+proposes : {p : Party} {side : Side} {bag : List Text} (s : SessionId) (terms : Terms) → s.gateway ≡ p.name → records_of s side.records ≡ [] → begun Origin side.records < most_sessions
+    → SideMoves p side bag (with_record side s (Began Origin terms) (next_text s p.peer p.key [] (Proposal terms))) bag
+proposes s terms g e c = Moves (Appends _) (record { may_come = Starts s terms g e c; arrives = tt; fits = λ v h. tt })
+
+accepts : {p : Party} {side : Side} {bag : List Text} (s : SessionId) (terms : Terms) (t : Text) → s.gateway ≡ p.peer → records_of s side.records ≡ [] → begun Recipient side.records < most_sessions
+    → Delivered p.key bag t → t ≡ next_text s p.name p.key [] (Proposal terms) → SideMoves p side bag (with_record side s (Began Recipient terms) t) bag
+accepts {p = p} {side = side} {bag = bag} s terms t g e c d x =
+    subst (λ u. SideMoves p side bag (with_record side s (Began Recipient terms) u) bag) (sym x)
+    (Moves (Appends _) (record { may_come = Accepts s terms g e c; arrives = subst (Delivered p.key bag) x d; fits = λ v h. tt }))
+
+takes : {p : Party} {side : Side} {bag : List Text} (s : SessionId) (v : View) (part : Part) (t : Text) → view_in s side.records ≡ Some v → RoleRule v.role v (Took (part_kind part)) → IsPart part
+    → Delivered p.key bag t → t ≡ next_text s (recipient_at p v.role) p.key (chain_in s side.records) part → SideMoves p side bag (with_record side s (Took (part_kind part)) t) bag
+takes {p = p} {side = side} {bag = bag} s v part t e rule f d x =
+    subst (λ u. SideMoves p side bag (with_record side s (Took (part_kind part)) u) bag) (sym x)
+    (Moves (Appends _) (record { may_come = Takes s v part e rule f; arrives = subst (Delivered p.key bag) x d; fits = λ w h. tt }))
+
+makes : {p : Party} {side : Side} {bag : List Text} (s : SessionId) (v : View) (part : Part) → view_in s side.records ≡ Some v → RoleRule v.role v (Made (part_kind part)) → IsPart part
+    → SideMoves p side bag (with_record side s (Made (part_kind part)) (next_text s (recipient_at p v.role) p.key (chain_in s side.records) part)) bag
+makes s v part e rule f = Moves (Appends _) (record { may_come = Makes s v part e rule f; arrives = tt; fits = λ w h. tt })
+
+arrives-none : (key : List ℕ) (bag : List Text) (r : Rec) → IsNote r → ArrivesAs key bag r []
+arrives-none key bag (Did op) n = tt
+arrives-none key bag (Chose way) n = tt
+arrives-none key bag Rescue n = tt
+arrives-none key bag (Began role terms) n = absurd n
+arrives-none key bag (Took k) n = absurd n
+arrives-none key bag (Made k) n = absurd n
+
+notes : {p : Party} {side : Side} {bag : List Text} (s : SessionId) (v : View) (r : Rec) → view_in s side.records ≡ Some v → RoleRule v.role v r → IsNote r → LedgerFits side.book s v.terms r
+    → SideMoves p side bag (with_record side s r []) bag
+notes {p = p} {side = side} {bag = bag} s v r e rule n l = Moves (Appends _) (record { may_come = Notes s v r e rule n; arrives = arrives-none p.key bag r n; fits = λ w h. subst (λ (x : View). LedgerFits side.book s x.terms r) (view-is v w (sym e ∙ h)) l })
+  where
+    view-is : (v w : View) → Some v ≡ Some w → v ≡ w
+    view-is v w e = cc e
+
+acts : {p : Party} {side : Side} {bag : List Text} (s : SessionId) (v : View) (op : LedgerOp) (answer : Answer) (book : Book) → view_in s side.records ≡ Some v → next_of v.role v ≡ Act op → LedgerRule side.book op s v.terms answer book
+    → SideMoves p side bag (record { records = side.records; book = book }) bag
+acts {p = p} {side = side} {bag = bag} s v op answer book e due rule =
+    let after = (rule-gives side.book op s v.terms answer book rule).1 in
+    subst (λ b. SideMoves p side bag (record { records = side.records; book = b }) bag) (sym after)
+    (Moves (Acts s op v.terms) (record { view = v; named = e; due = due; under = refl; answer = answer; rule = subst (LedgerRule side.book op s v.terms answer) after rule }))
+
+says : {p : Party} {side : Side} {bag : List Text} (t : Text) → Sayable p side.records bag t → SideMoves p side bag side (t ∷ bag)
+says t z = Moves (Says t) z
+
+-- ---- chains
 
 last_none : (ts : List Text) → last_texts 0 ts ≡ []
 last_none ts = go ts (length ts - 0) (omega arith)
@@ -92,15 +147,15 @@ module _ (st : Setting) (fa fb : Founding) (s : SessionId) (named : s.gateway �
       let t = next_text s st.b st.key [] (Proposal terms) in
       let ra = stored s (Began Origin terms) t ∷ [] in
       let rb = stored s (Began Recipient terms) t ∷ [] in
-      let w1 : Reached st fa fb (both_sides ra (first_book fa) [] (first_book fb) []) = Goes _ _ Begins (By A _ _ (Proposes s terms named refl (omega arith))) in
+      let w1 : Reached st fa fb (both_sides ra (first_book fa) [] (first_book fb) []) = Goes _ _ Begins (By A _ _ (proposes s terms named refl (omega arith))) in
       let view = view-first s [] (stored s (Began Origin terms) t) (session-self s) refl in
       let chain : chain_in s ra ≡ t ∷ [] = chain-here s [] (stored s (Began Origin terms) t) (session-self s) in
-      let w2 : Reached st fa fb (both_sides ra (first_book fa) [] (first_book fb) (t ∷ [])) = Goes _ _ w1 (By A _ _ (Says t (Own_text s (begin Origin terms) 0 t view (ap (λ ts. slice_get ts 0) chain) refl))) in
+      let w2 : Reached st fa fb (both_sides ra (first_book fa) [] (first_book fb) (t ∷ [])) = Goes _ _ w1 (By A _ _ (says t (Own_text s (begin Origin terms) 0 t view (ap (λ ts. slice_get ts 0) chain) refl))) in
       record {
         ra = ra;
         rb = rb;
         bag = t ∷ [];
-        reached = Goes _ _ w2 (By B _ _ (Accepts s terms t named refl (omega arith) (Alone first) refl));
+        reached = Goes _ _ w2 (By B _ _ (accepts s terms t named refl (omega arith) (Alone first) refl));
         view_a = view;
         view_b = view-first s [] (stored s (Began Recipient terms) t) (session-self s) refl;
         chains = chain ∙ sym (chain-here s [] (stored s (Began Recipient terms) t) (session-self s));
@@ -116,11 +171,11 @@ module _ (st : Setting) (fa fb : Founding) (s : SessionId) (named : s.gateway �
       ra = k.ra ++ stored s r [] ∷ [];
       rb = k.rb;
       bag = k.bag;
-      reached = Goes _ _ k.reached (By A _ _ (Notes s va r k.view_a rule n l));
+      reached = Goes _ _ k.reached (By A _ _ (notes s va r k.view_a rule n l));
       view_a = view-here s k.ra (stored s r []) va (session-self s) k.view_a;
       view_b = k.view_b;
-      chains = no-text s (side k.ra ba) r [] n ∙ k.chains;
-      long = ap length (no-text s (side k.ra ba) r [] n) ∙ k.long ∙ ap length (sym (note-tale va r n));
+      chains = no-text s k.ra r [] n ∙ k.chains;
+      long = ap length (no-text s k.ra r [] n) ∙ k.long ∙ ap length (sym (note-tale va r n));
       keeps = k.keeps;
     }
 
@@ -129,10 +184,10 @@ module _ (st : Setting) (fa fb : Founding) (s : SessionId) (named : s.gateway �
       ra = k.ra;
       rb = k.rb ++ stored s r [] ∷ [];
       bag = k.bag;
-      reached = Goes _ _ k.reached (By B _ _ (Notes s vb r k.view_b rule n l));
+      reached = Goes _ _ k.reached (By B _ _ (notes s vb r k.view_b rule n l));
       view_a = k.view_a;
       view_b = view-here s k.rb (stored s r []) vb (session-self s) k.view_b;
-      chains = k.chains ∙ sym (no-text s (side k.rb bb) r [] n);
+      chains = k.chains ∙ sym (no-text s k.rb r [] n);
       long = k.long;
       keeps = k.keeps;
     }
@@ -144,7 +199,7 @@ module _ (st : Setting) (fa fb : Founding) (s : SessionId) (named : s.gateway �
       ra = k.ra;
       rb = k.rb;
       bag = k.bag;
-      reached = Goes _ _ k.reached (By A _ _ (Acts s va op answer book k.view_a due rule));
+      reached = Goes _ _ k.reached (By A _ _ (acts s va op answer book k.view_a due rule));
       view_a = k.view_a;
       view_b = k.view_b;
       chains = k.chains;
@@ -157,7 +212,7 @@ module _ (st : Setting) (fa fb : Founding) (s : SessionId) (named : s.gateway �
       ra = k.ra;
       rb = k.rb;
       bag = k.bag;
-      reached = Goes _ _ k.reached (By B _ _ (Acts s vb op answer book k.view_b due rule));
+      reached = Goes _ _ k.reached (By B _ _ (acts s vb op answer book k.view_b due rule));
       view_a = k.view_a;
       view_b = k.view_b;
       chains = k.chains;
@@ -167,12 +222,12 @@ module _ (st : Setting) (fa fb : Founding) (s : SessionId) (named : s.gateway �
 
     -- ---- texts
 
-    pub say_a : (t : Text) → Sayable st A k.ra k.bag t → Run va vb ba bb (t ∷ old)
+    pub say_a : (t : Text) → Sayable (party_at st A) k.ra k.bag t → Run va vb ba bb (t ∷ old)
     say_a t z = record {
       ra = k.ra;
       rb = k.rb;
       bag = t ∷ k.bag;
-      reached = Goes _ _ k.reached (By A _ _ (Says t z));
+      reached = Goes _ _ k.reached (By A _ _ (says t z));
       view_a = k.view_a;
       view_b = k.view_b;
       chains = k.chains;
@@ -188,23 +243,23 @@ module _ (st : Setting) (fa fb : Founding) (s : SessionId) (named : s.gateway �
     pub sends_a : (p : Part) → va.role ≡ Origin → vb.role ≡ Recipient → RoleRule va.role va (Made (part_kind p)) → IsPart p → RoleRule vb.role vb (Took (part_kind p)) → role_at (length va.tale + 1) ≡ va.role
         → Run (push va (Made (part_kind p))) (push vb (Took (part_kind p))) ba bb old
     sends_a p origin recipient made f took place =
-        let t = next_text s (recipient_for st A va.role) st.key (chain_in s k.ra) p in
+        let t = next_text s (recipient_at (party_at st A) va.role) st.key (chain_in s k.ra) p in
         let ra = k.ra ++ stored s (Made (part_kind p)) t ∷ [] in
         let rb = k.rb ++ stored s (Took (part_kind p)) t ∷ [] in
-        let w1 : Reached st fa fb (both_sides ra ba k.rb bb k.bag) = Goes _ _ k.reached (By A _ _ (Makes s va p k.view_a made f)) in
+        let w1 : Reached st fa fb (both_sides ra ba k.rb bb k.bag) = Goes _ _ k.reached (By A _ _ (makes s va p k.view_a made f)) in
         let view = view-here s k.ra (stored s (Made (part_kind p)) t) va (session-self s) k.view_a in
-        let chain = one-text s (side k.ra ba) (part_kind p) (Made (part_kind p)) t As_made in
+        let chain = one-text s k.ra (part_kind p) (Made (part_kind p)) t As_made in
         let here = ap (λ ts. slice_get ts (length (chain_in s k.ra))) chain ∙ get-new (chain_in s k.ra) t in
-        let w2 : Reached st fa fb (both_sides ra ba k.rb bb (t ∷ k.bag)) = Goes _ _ w1 (By A _ _ (Says t (Own_text s (push va (Made (part_kind p))) (length (chain_in s k.ra)) t view here (ap (λ n. role_at (n + 1)) k.long ∙ place)))) in
-        let same : t ≡ next_text s (recipient_for st B vb.role) st.key (chain_in s k.rb) p = ap (λ r. next_text s (recipient_for st A r) st.key (chain_in s k.ra) p) origin ∙ ap (λ ts. next_text s st.b st.key ts p) k.chains ∙ ap (λ r. next_text s (recipient_for st B r) st.key (chain_in s k.rb) p) (sym recipient) in
+        let w2 : Reached st fa fb (both_sides ra ba k.rb bb (t ∷ k.bag)) = Goes _ _ w1 (By A _ _ (says t (Own_text s (push va (Made (part_kind p))) (length (chain_in s k.ra)) t view here (ap (λ n. role_at (n + 1)) k.long ∙ place)))) in
+        let same : t ≡ next_text s (recipient_at (party_at st B) vb.role) st.key (chain_in s k.rb) p = ap (λ r. next_text s (recipient_at (party_at st A) r) st.key (chain_in s k.ra) p) origin ∙ ap (λ ts. next_text s st.b st.key ts p) k.chains ∙ ap (λ r. next_text s (recipient_at (party_at st B) r) st.key (chain_in s k.rb) p) (sym recipient) in
         record {
           ra = ra;
           rb = rb;
           bag = t ∷ k.bag;
-          reached = Goes _ _ w2 (By B _ _ (Takes s vb p t k.view_b took f (Alone first) same));
+          reached = Goes _ _ w2 (By B _ _ (takes s vb p t k.view_b took f (Alone first) same));
           view_a = view;
           view_b = view-here s k.rb (stored s (Took (part_kind p)) t) vb (session-self s) k.view_b;
-          chains = chain ∙ ap (λ ts. ts ++ t ∷ []) k.chains ∙ sym (one-text s (side k.rb bb) (part_kind p) (Took (part_kind p)) t As_taken);
+          chains = chain ∙ ap (λ ts. ts ++ t ∷ []) k.chains ∙ sym (one-text s k.rb (part_kind p) (Took (part_kind p)) t As_taken);
           long = ap length chain ∙ length_push (chain_in s k.ra) t ∙ ap (λ n. n + 1) k.long ∙ sym (length_push va.tale (part_kind p));
           keeps = λ u i. later (k.keeps u i);
         }
@@ -213,21 +268,21 @@ module _ (st : Setting) (fa fb : Founding) (s : SessionId) (named : s.gateway �
     pub sends_b : (p : Part) → va.role ≡ Origin → vb.role ≡ Recipient → RoleRule vb.role vb (Made (part_kind p)) → IsPart p → RoleRule va.role va (Took (part_kind p)) → role_at (length va.tale + 1) ≡ vb.role
         → Run (push va (Took (part_kind p))) (push vb (Made (part_kind p))) ba bb old
     sends_b p origin recipient made f took place =
-        let t = next_text s (recipient_for st B vb.role) st.key (chain_in s k.rb) p in
+        let t = next_text s (recipient_at (party_at st B) vb.role) st.key (chain_in s k.rb) p in
         let ra = k.ra ++ stored s (Took (part_kind p)) t ∷ [] in
         let rb = k.rb ++ stored s (Made (part_kind p)) t ∷ [] in
-        let w1 : Reached st fa fb (both_sides k.ra ba rb bb k.bag) = Goes _ _ k.reached (By B _ _ (Makes s vb p k.view_b made f)) in
+        let w1 : Reached st fa fb (both_sides k.ra ba rb bb k.bag) = Goes _ _ k.reached (By B _ _ (makes s vb p k.view_b made f)) in
         let view = view-here s k.rb (stored s (Made (part_kind p)) t) vb (session-self s) k.view_b in
-        let chain = one-text s (side k.rb bb) (part_kind p) (Made (part_kind p)) t As_made in
+        let chain = one-text s k.rb (part_kind p) (Made (part_kind p)) t As_made in
         let here = ap (λ ts. slice_get ts (length (chain_in s k.rb))) chain ∙ get-new (chain_in s k.rb) t in
-        let w2 : Reached st fa fb (both_sides k.ra ba rb bb (t ∷ k.bag)) = Goes _ _ w1 (By B _ _ (Says t (Own_text s (push vb (Made (part_kind p))) (length (chain_in s k.rb)) t view here (ap (λ ts. role_at (length ts + 1)) (sym k.chains) ∙ ap (λ n. role_at (n + 1)) k.long ∙ place)))) in
-        let same : t ≡ next_text s (recipient_for st A va.role) st.key (chain_in s k.ra) p = ap (λ r. next_text s (recipient_for st B r) st.key (chain_in s k.rb) p) recipient ∙ ap (λ ts. next_text s st.b st.key ts p) (sym k.chains) ∙ ap (λ r. next_text s (recipient_for st A r) st.key (chain_in s k.ra) p) (sym origin) in
-        let taken = one-text s (side k.ra ba) (part_kind p) (Took (part_kind p)) t As_taken in
+        let w2 : Reached st fa fb (both_sides k.ra ba rb bb (t ∷ k.bag)) = Goes _ _ w1 (By B _ _ (says t (Own_text s (push vb (Made (part_kind p))) (length (chain_in s k.rb)) t view here (ap (λ ts. role_at (length ts + 1)) (sym k.chains) ∙ ap (λ n. role_at (n + 1)) k.long ∙ place)))) in
+        let same : t ≡ next_text s (recipient_at (party_at st A) va.role) st.key (chain_in s k.ra) p = ap (λ r. next_text s (recipient_at (party_at st B) r) st.key (chain_in s k.rb) p) recipient ∙ ap (λ ts. next_text s st.b st.key ts p) (sym k.chains) ∙ ap (λ r. next_text s (recipient_at (party_at st A) r) st.key (chain_in s k.ra) p) (sym origin) in
+        let taken = one-text s k.ra (part_kind p) (Took (part_kind p)) t As_taken in
         record {
           ra = ra;
           rb = rb;
           bag = t ∷ k.bag;
-          reached = Goes _ _ w2 (By A _ _ (Takes s va p t k.view_a took f (Alone first) same));
+          reached = Goes _ _ w2 (By A _ _ (takes s va p t k.view_a took f (Alone first) same));
           view_a = view-here s k.ra (stored s (Took (part_kind p)) t) va (session-self s) k.view_a;
           view_b = view;
           chains = taken ∙ ap (λ ts. ts ++ t ∷ []) k.chains ∙ sym chain;
@@ -244,7 +299,7 @@ module _ (st : Setting) (fa fb : Founding) (s : SessionId) (named : s.gateway �
     pub answered : ℕ
     pub carried : List Text
     pub carries : length carried ≡ entries
-    pub run : Run va vb ba bb (own st.key (message_from st B s (body.Update answered carried)) ∷ own st.key (message_from st A s (body.Recover asked asked_last)) ∷ [])
+    pub run : Run va vb ba bb (own st.key (message_from (party_at st B) s (body.Update answered carried)) ∷ own st.key (message_from (party_at st A) s (body.Recover asked asked_last)) ∷ [])
 
   module _ (va vb : View) (ba bb : Book) (k : Run va vb ba bb []) where
     -- The origin says a message that is lost, and stops. Then it starts a round: the recipient has nothing more, and the origin says the message again.
@@ -252,30 +307,30 @@ module _ (st : Setting) (fa fb : Founding) (s : SessionId) (named : s.gateway �
         → RoleRule va.role (push va (Made (part_kind p))) Rescue → length va.tale + 1 ≤ 11
         → Round (push (push va (Made (part_kind p))) Rescue) (push vb (Took (part_kind p))) ba bb 0
     says_again_a p origin recipient made f took place rescue short =
-        let t = next_text s (recipient_for st A va.role) st.key (chain_in s k.ra) p in
+        let t = next_text s (recipient_at (party_at st A) va.role) st.key (chain_in s k.ra) p in
         let r1 = k.ra ++ stored s (Made (part_kind p)) t ∷ [] in
         let r2 = r1 ++ stored s Rescue [] ∷ [] in
         let v1 = push va (Made (part_kind p)) in
         let rb = k.rb ++ stored s (Took (part_kind p)) t ∷ [] in
-        let w1 : Reached st fa fb (both_sides r1 ba k.rb bb k.bag) = Goes _ _ k.reached (By A _ _ (Makes s va p k.view_a made f)) in
+        let w1 : Reached st fa fb (both_sides r1 ba k.rb bb k.bag) = Goes _ _ k.reached (By A _ _ (makes s va p k.view_a made f)) in
         let view1 = view-here s k.ra (stored s (Made (part_kind p)) t) va (session-self s) k.view_a in
-        let chain1 = one-text s (side k.ra ba) (part_kind p) (Made (part_kind p)) t As_made in
+        let chain1 = one-text s k.ra (part_kind p) (Made (part_kind p)) t As_made in
         let at = length (chain_in s k.ra) in
         let mine = ap (λ n. role_at (n + 1)) k.long ∙ place in
-        let w2 : Reached st fa fb (both_sides r1 ba k.rb bb (t ∷ k.bag)) = Goes _ _ w1 (By A _ _ (Says t (Own_text s v1 at t view1 (ap (λ ts. slice_get ts at) chain1 ∙ get-new (chain_in s k.ra) t) mine))) in
+        let w2 : Reached st fa fb (both_sides r1 ba k.rb bb (t ∷ k.bag)) = Goes _ _ w1 (By A _ _ (says t (Own_text s v1 at t view1 (ap (λ ts. slice_get ts at) chain1 ∙ get-new (chain_in s k.ra) t) mine))) in
         let w3 : Reached st fa fb (both_sides r1 ba k.rb bb (t ∷ k.bag)) = Goes _ _ w2 (By A _ _ Stops) in
-        let w4 : Reached st fa fb (both_sides r2 ba k.rb bb (t ∷ k.bag)) = Goes _ _ w3 (By A _ _ (Notes s v1 Rescue view1 rescue tt tt)) in
+        let w4 : Reached st fa fb (both_sides r2 ba k.rb bb (t ∷ k.bag)) = Goes _ _ w3 (By A _ _ (notes s v1 Rescue view1 rescue tt tt)) in
         let view2 = view-here s r1 (stored s Rescue []) v1 (session-self s) view1 in
-        let chain2 = no-text s (side r1 ba) Rescue [] tt ∙ chain1 in
+        let chain2 = no-text s r1 Rescue [] tt ∙ chain1 in
         let long2 = ap length chain2 ∙ length_push (chain_in s k.ra) t ∙ ap (λ n. n + 1) k.long in
-        let asked = message_from st A s (body.Recover (length (chain_in s r2)) (head_of (chain_in s r2)).last) in
-        let w5 : Reached st fa fb (both_sides r2 ba k.rb bb (own st.key asked ∷ t ∷ k.bag)) = Goes _ _ w4 (By A _ _ (Says (own st.key asked) (Recovers s (push v1 Rescue) view2 (omega (arith, long2, short), link_at_formed (chain_in s r2) (length (chain_in s r2)))))) in
+        let asked = message_from (party_at st A) s (body.Recover (length (chain_in s r2)) (head_of (chain_in s r2)).last) in
+        let w5 : Reached st fa fb (both_sides r2 ba k.rb bb (own st.key asked ∷ t ∷ k.bag)) = Goes _ _ w4 (By A _ _ (says (own st.key asked) (Recovers s (push v1 Rescue) view2 (omega (arith, long2, short), link_at_formed (chain_in s r2) (length (chain_in s r2)))))) in
         let none = last_none (chain_in s k.rb) in
-        let answered = message_from st B s (body.Update (length (chain_in s k.rb)) (last_texts 0 (chain_in s k.rb))) in
+        let answered = message_from (party_at st B) s (body.Update (length (chain_in s k.rb)) (last_texts 0 (chain_in s k.rb))) in
         let few = subst (λ es. are_entries es ≡ true) (sym none) refl in
-        let w6 : Reached st fa fb (both_sides r2 ba k.rb bb (own st.key answered ∷ own st.key asked ∷ t ∷ k.bag)) = Goes _ _ w5 (By B _ _ (Says (own st.key answered) (Updates s vb 0 k.view_b (omega arith) ((omega (arith, ap length k.chains, k.long, short), few), tt)))) in
-        let w7 : Reached st fa fb (both_sides r2 ba k.rb bb (t ∷ own st.key answered ∷ own st.key asked ∷ t ∷ k.bag)) = Goes _ _ w6 (By A _ _ (Says t (Own_text s (push v1 Rescue) at t view2 (ap (λ ts. slice_get ts at) chain2 ∙ get-new (chain_in s k.ra) t) mine))) in
-        let same : t ≡ next_text s (recipient_for st B vb.role) st.key (chain_in s k.rb) p = ap (λ r. next_text s (recipient_for st A r) st.key (chain_in s k.ra) p) origin ∙ ap (λ ts. next_text s st.b st.key ts p) k.chains ∙ ap (λ r. next_text s (recipient_for st B r) st.key (chain_in s k.rb) p) (sym recipient) in
+        let w6 : Reached st fa fb (both_sides r2 ba k.rb bb (own st.key answered ∷ own st.key asked ∷ t ∷ k.bag)) = Goes _ _ w5 (By B _ _ (says (own st.key answered) (Updates s vb 0 k.view_b (omega arith) ((omega (arith, ap length k.chains, k.long, short), few), tt)))) in
+        let w7 : Reached st fa fb (both_sides r2 ba k.rb bb (t ∷ own st.key answered ∷ own st.key asked ∷ t ∷ k.bag)) = Goes _ _ w6 (By A _ _ (says t (Own_text s (push v1 Rescue) at t view2 (ap (λ ts. slice_get ts at) chain2 ∙ get-new (chain_in s k.ra) t) mine))) in
+        let same : t ≡ next_text s (recipient_at (party_at st B) vb.role) st.key (chain_in s k.rb) p = ap (λ r. next_text s (recipient_at (party_at st A) r) st.key (chain_in s k.ra) p) origin ∙ ap (λ ts. next_text s st.b st.key ts p) k.chains ∙ ap (λ r. next_text s (recipient_at (party_at st B) r) st.key (chain_in s k.rb) p) (sym recipient) in
         record {
           asked = length (chain_in s r2);
           asked_last = (head_of (chain_in s r2)).last;
@@ -286,10 +341,10 @@ module _ (st : Setting) (fa fb : Founding) (s : SessionId) (named : s.gateway �
             ra = r2;
             rb = rb;
             bag = t ∷ own st.key answered ∷ own st.key asked ∷ t ∷ k.bag;
-            reached = Goes _ _ w7 (By B _ _ (Takes s vb p t k.view_b took f (Alone first) same));
+            reached = Goes _ _ w7 (By B _ _ (takes s vb p t k.view_b took f (Alone first) same));
             view_a = view2;
             view_b = view-here s k.rb (stored s (Took (part_kind p)) t) vb (session-self s) k.view_b;
-            chains = chain2 ∙ ap (λ ts. ts ++ t ∷ []) k.chains ∙ sym (one-text s (side k.rb bb) (part_kind p) (Took (part_kind p)) t As_taken);
+            chains = chain2 ∙ ap (λ ts. ts ++ t ∷ []) k.chains ∙ sym (one-text s k.rb (part_kind p) (Took (part_kind p)) t As_taken);
             long = long2 ∙ sym (length_push va.tale (part_kind p));
             keeps = λ u i. later (kept (own st.key answered) (own st.key asked) (t ∷ k.bag) u i);
           };
@@ -300,31 +355,31 @@ module _ (st : Setting) (fa fb : Founding) (s : SessionId) (named : s.gateway �
         → RoleRule va.role va Rescue → length va.tale + 1 ≤ 11
         → Round (push (push va Rescue) (Took (part_kind p))) (push vb (Made (part_kind p))) ba bb 1
     finds_a p origin recipient made f took place rescue short =
-        let t = next_text s (recipient_for st B vb.role) st.key (chain_in s k.rb) p in
+        let t = next_text s (recipient_at (party_at st B) vb.role) st.key (chain_in s k.rb) p in
         let r1 = k.ra ++ stored s Rescue [] ∷ [] in
         let r2 = r1 ++ stored s (Took (part_kind p)) t ∷ [] in
         let rb = k.rb ++ stored s (Made (part_kind p)) t ∷ [] in
         let at = length (chain_in s k.rb) in
         let same_length = ap length (sym k.chains) ∙ k.long in
-        let w1 : Reached st fa fb (both_sides k.ra ba rb bb k.bag) = Goes _ _ k.reached (By B _ _ (Makes s vb p k.view_b made f)) in
+        let w1 : Reached st fa fb (both_sides k.ra ba rb bb k.bag) = Goes _ _ k.reached (By B _ _ (makes s vb p k.view_b made f)) in
         let view_b = view-here s k.rb (stored s (Made (part_kind p)) t) vb (session-self s) k.view_b in
-        let chain_b = one-text s (side k.rb bb) (part_kind p) (Made (part_kind p)) t As_made in
-        let w2 : Reached st fa fb (both_sides k.ra ba rb bb (t ∷ k.bag)) = Goes _ _ w1 (By B _ _ (Says t (Own_text s (push vb (Made (part_kind p))) at t view_b (ap (λ ts. slice_get ts at) chain_b ∙ get-new (chain_in s k.rb) t) (ap (λ n. role_at (n + 1)) same_length ∙ place)))) in
+        let chain_b = one-text s k.rb (part_kind p) (Made (part_kind p)) t As_made in
+        let w2 : Reached st fa fb (both_sides k.ra ba rb bb (t ∷ k.bag)) = Goes _ _ w1 (By B _ _ (says t (Own_text s (push vb (Made (part_kind p))) at t view_b (ap (λ ts. slice_get ts at) chain_b ∙ get-new (chain_in s k.rb) t) (ap (λ n. role_at (n + 1)) same_length ∙ place)))) in
         let w3 : Reached st fa fb (both_sides k.ra ba rb bb (t ∷ k.bag)) = Goes _ _ w2 (By A _ _ Stops) in
-        let w4 : Reached st fa fb (both_sides r1 ba rb bb (t ∷ k.bag)) = Goes _ _ w3 (By A _ _ (Notes s va Rescue k.view_a rescue tt tt)) in
+        let w4 : Reached st fa fb (both_sides r1 ba rb bb (t ∷ k.bag)) = Goes _ _ w3 (By A _ _ (notes s va Rescue k.view_a rescue tt tt)) in
         let view1 = view-here s k.ra (stored s Rescue []) va (session-self s) k.view_a in
-        let chain1 = no-text s (side k.ra ba) Rescue [] tt in
-        let asked = message_from st A s (body.Recover (length (chain_in s r1)) (head_of (chain_in s r1)).last) in
-        let w5 : Reached st fa fb (both_sides r1 ba rb bb (own st.key asked ∷ t ∷ k.bag)) = Goes _ _ w4 (By A _ _ (Says (own st.key asked) (Recovers s (push va Rescue) view1 (omega (arith, ap length chain1, k.long, short), link_at_formed (chain_in s r1) (length (chain_in s r1)))))) in
+        let chain1 = no-text s k.ra Rescue [] tt in
+        let asked = message_from (party_at st A) s (body.Recover (length (chain_in s r1)) (head_of (chain_in s r1)).last) in
+        let w5 : Reached st fa fb (both_sides r1 ba rb bb (own st.key asked ∷ t ∷ k.bag)) = Goes _ _ w4 (By A _ _ (says (own st.key asked) (Recovers s (push va Rescue) view1 (omega (arith, ap length chain1, k.long, short), link_at_formed (chain_in s r1) (length (chain_in s r1)))))) in
         let one = ap (last_texts 1) chain_b ∙ last_one (chain_in s k.rb) t in
-        let fits = chain-entry st.key (message_at s (recipient_for st B vb.role) (at + 1) (last_link (chain_in s k.rb)) p) ((record { low = omega arith; high = omega (arith, same_length, short) }, f), link_at_formed (chain_in s k.rb) at) tt in
+        let fits = chain-entry st.key (message_at s (recipient_at (party_at st B) vb.role) (at + 1) (last_link (chain_in s k.rb)) p) ((record { low = omega arith; high = omega (arith, same_length, short) }, f), link_at_formed (chain_in s k.rb) at) tt in
         let few = subst (λ es. are_entries es ≡ true) (sym one) (and_from _ _ refl (and_from _ _ fits refl)) in
-        let answered = message_from st B s (body.Update (length (chain_in s rb)) (last_texts 1 (chain_in s rb))) in
+        let answered = message_from (party_at st B) s (body.Update (length (chain_in s rb)) (last_texts 1 (chain_in s rb))) in
         let formed : IsMessage answered = ((omega (arith, ap length chain_b, length_push (chain_in s k.rb) t, same_length, short), few), tt) in
-        let w6 : Reached st fa fb (both_sides r1 ba rb bb (own st.key answered ∷ own st.key asked ∷ t ∷ k.bag)) = Goes _ _ w5 (By B _ _ (Says (own st.key answered) (Updates s (push vb (Made (part_kind p))) 1 view_b (omega arith) formed))) in
-        let same : t ≡ next_text s (recipient_for st A va.role) st.key (chain_in s r1) p = ap (λ r. next_text s (recipient_for st B r) st.key (chain_in s k.rb) p) recipient ∙ ap (λ ts. next_text s st.b st.key ts p) (sym k.chains ∙ sym chain1) ∙ ap (λ r. next_text s (recipient_for st A r) st.key (chain_in s r1) p) (sym origin) in
+        let w6 : Reached st fa fb (both_sides r1 ba rb bb (own st.key answered ∷ own st.key asked ∷ t ∷ k.bag)) = Goes _ _ w5 (By B _ _ (says (own st.key answered) (Updates s (push vb (Made (part_kind p))) 1 view_b (omega arith) formed))) in
+        let same : t ≡ next_text s (recipient_at (party_at st A) va.role) st.key (chain_in s r1) p = ap (λ r. next_text s (recipient_at (party_at st B) r) st.key (chain_in s k.rb) p) recipient ∙ ap (λ ts. next_text s st.b st.key ts p) (sym k.chains ∙ sym chain1) ∙ ap (λ r. next_text s (recipient_at (party_at st A) r) st.key (chain_in s r1) p) (sym origin) in
         let found = Listed answered (length (chain_in s rb)) (last_texts 1 (chain_in s rb)) formed first refl (subst (Among t) (sym one) first) in
-        let taken = one-text s (side r1 ba) (part_kind p) (Took (part_kind p)) t As_taken in
+        let taken = one-text s r1 (part_kind p) (Took (part_kind p)) t As_taken in
         record {
           asked = length (chain_in s r1);
           asked_last = (head_of (chain_in s r1)).last;
@@ -335,7 +390,7 @@ module _ (st : Setting) (fa fb : Founding) (s : SessionId) (named : s.gateway �
             ra = r2;
             rb = rb;
             bag = own st.key answered ∷ own st.key asked ∷ t ∷ k.bag;
-            reached = Goes _ _ w6 (By A _ _ (Takes s (push va Rescue) p t view1 took f found same));
+            reached = Goes _ _ w6 (By A _ _ (takes s (push va Rescue) p t view1 took f found same));
             view_a = view-here s r1 (stored s (Took (part_kind p)) t) (push va Rescue) (session-self s) view1;
             view_b = view_b;
             chains = taken ∙ ap (λ ts. ts ++ t ∷ []) (chain1 ∙ k.chains) ∙ sym chain_b;
@@ -352,20 +407,20 @@ module _ (st : Setting) (fa fb : Founding) (s : SessionId) (named : s.gateway �
       let r1 = x ∷ [] in
       let r2 = r1 ++ stored s Rescue [] ∷ [] in
       let rb = stored s (Began Recipient terms) t ∷ [] in
-      let w1 : Reached st fa fb (both_sides r1 (first_book fa) [] (first_book fb) []) = Goes _ _ Begins (By A _ _ (Proposes s terms named refl (omega arith))) in
+      let w1 : Reached st fa fb (both_sides r1 (first_book fa) [] (first_book fb) []) = Goes _ _ Begins (By A _ _ (proposes s terms named refl (omega arith))) in
       let view1 = view-first s [] x (session-self s) refl in
       let chain1 : chain_in s r1 ≡ t ∷ [] = chain-here s [] x (session-self s) in
-      let w2 : Reached st fa fb (both_sides r1 (first_book fa) [] (first_book fb) (t ∷ [])) = Goes _ _ w1 (By A _ _ (Says t (Own_text s (begin Origin terms) 0 t view1 (ap (λ ts. slice_get ts 0) chain1) refl))) in
+      let w2 : Reached st fa fb (both_sides r1 (first_book fa) [] (first_book fb) (t ∷ [])) = Goes _ _ w1 (By A _ _ (says t (Own_text s (begin Origin terms) 0 t view1 (ap (λ ts. slice_get ts 0) chain1) refl))) in
       let w3 : Reached st fa fb (both_sides r1 (first_book fa) [] (first_book fb) (t ∷ [])) = Goes _ _ w2 (By A _ _ Stops) in
-      let w4 : Reached st fa fb (both_sides r2 (first_book fa) [] (first_book fb) (t ∷ [])) = Goes _ _ w3 (By A _ _ (Notes s (begin Origin terms) Rescue view1 (Free (refl, refl, refl)) tt tt)) in
+      let w4 : Reached st fa fb (both_sides r2 (first_book fa) [] (first_book fb) (t ∷ [])) = Goes _ _ w3 (By A _ _ (notes s (begin Origin terms) Rescue view1 (Free (refl, refl, refl)) tt tt)) in
       let view2 = view-here s r1 (stored s Rescue []) (begin Origin terms) (session-self s) view1 in
-      let chain2 = no-text s (side r1 (first_book fa)) Rescue [] tt ∙ chain1 in
-      let asked = message_from st A s (body.Recover (length (chain_in s r2)) (head_of (chain_in s r2)).last) in
+      let chain2 = no-text s r1 Rescue [] tt ∙ chain1 in
+      let asked = message_from (party_at st A) s (body.Recover (length (chain_in s r2)) (head_of (chain_in s r2)).last) in
       let formed : IsMessage asked = (omega (arith, ap length chain2), link_at_formed (chain_in s r2) (length (chain_in s r2))) in
-      let w5 : Reached st fa fb (both_sides r2 (first_book fa) [] (first_book fb) (own st.key asked ∷ t ∷ [])) = Goes _ _ w4 (By A _ _ (Says (own st.key asked) (Recovers s (push (begin Origin terms) Rescue) view2 formed))) in
-      let answered = message_from st B s (body.Update 0 []) in
-      let w6 : Reached st fa fb (both_sides r2 (first_book fa) [] (first_book fb) (own st.key answered ∷ own st.key asked ∷ t ∷ [])) = Goes _ _ w5 (By B _ _ (Says (own st.key answered) (Knows_none asked (length (chain_in s r2)) (head_of (chain_in s r2)).last named refl formed refl refl first ((omega arith, refl), tt)))) in
-      let w7 : Reached st fa fb (both_sides r2 (first_book fa) [] (first_book fb) (t ∷ own st.key answered ∷ own st.key asked ∷ t ∷ [])) = Goes _ _ w6 (By A _ _ (Says t (Own_text s (push (begin Origin terms) Rescue) 0 t view2 (ap (λ ts. slice_get ts 0) chain2) refl))) in
+      let w5 : Reached st fa fb (both_sides r2 (first_book fa) [] (first_book fb) (own st.key asked ∷ t ∷ [])) = Goes _ _ w4 (By A _ _ (says (own st.key asked) (Recovers s (push (begin Origin terms) Rescue) view2 formed))) in
+      let answered = message_from (party_at st B) s (body.Update 0 []) in
+      let w6 : Reached st fa fb (both_sides r2 (first_book fa) [] (first_book fb) (own st.key answered ∷ own st.key asked ∷ t ∷ [])) = Goes _ _ w5 (By B _ _ (says (own st.key answered) (Knows_none asked (length (chain_in s r2)) (head_of (chain_in s r2)).last named refl formed refl refl first ((omega arith, refl), tt)))) in
+      let w7 : Reached st fa fb (both_sides r2 (first_book fa) [] (first_book fb) (t ∷ own st.key answered ∷ own st.key asked ∷ t ∷ [])) = Goes _ _ w6 (By A _ _ (says t (Own_text s (push (begin Origin terms) Rescue) 0 t view2 (ap (λ ts. slice_get ts 0) chain2) refl))) in
       record {
         asked = length (chain_in s r2);
         asked_last = (head_of (chain_in s r2)).last;
@@ -376,7 +431,7 @@ module _ (st : Setting) (fa fb : Founding) (s : SessionId) (named : s.gateway �
           ra = r2;
           rb = rb;
           bag = t ∷ own st.key answered ∷ own st.key asked ∷ t ∷ [];
-          reached = Goes _ _ w7 (By B _ _ (Accepts s terms t named refl (omega arith) (Alone first) refl));
+          reached = Goes _ _ w7 (By B _ _ (accepts s terms t named refl (omega arith) (Alone first) refl));
           view_a = view2;
           view_b = view-first s [] (stored s (Began Recipient terms) t) (session-self s) refl;
           chains = chain2 ∙ sym (chain-here s [] (stored s (Began Recipient terms) t) (session-self s));
@@ -387,9 +442,9 @@ module _ (st : Setting) (fa fb : Founding) (s : SessionId) (named : s.gateway �
 
   -- the recovery's last message
   pub succeeds_a : (va vb : View) (ba bb : Book) (old : List Text) (k : Run va vb ba bb old) → length va.tale ≤ 11
-      → (n : ℕ) × (last : Link) × Run va vb ba bb (own st.key (message_from st A s (body.Success n last)) ∷ old)
+      → (n : ℕ) × (last : Link) × Run va vb ba bb (own st.key (message_from (party_at st A) s (body.Success n last)) ∷ old)
   succeeds_a va vb ba bb old k short = (
     length (chain_in s k.ra),
     (head_of (chain_in s k.ra)).last,
-    say_a va vb ba bb old k (own st.key (message_from st A s (body.Success (length (chain_in s k.ra)) (head_of (chain_in s k.ra)).last))) (Succeeds s va k.view_a (omega (arith, k.long, short), link_at_formed (chain_in s k.ra) (length (chain_in s k.ra)))),
+    say_a va vb ba bb old k (own st.key (message_from (party_at st A) s (body.Success (length (chain_in s k.ra)) (head_of (chain_in s k.ra)).last))) (Succeeds s va k.view_a (omega (arith, k.long, short), link_at_formed (chain_in s k.ra) (length (chain_in s k.ra)))),
   )

@@ -12,7 +12,8 @@ use Rattle.satp_base.specs.Roles.{both, either, negate, is_back}
 use Rattle.satp_base.proofs.Finite.{implies-use}
 use Rattle.satp_base.proofs.TaleTable.{tale_eq, tale_eq-refl}
 use Rattle.satp_world.specs.Deal.{Decision}
-use Rattle.satp_world.specs.Sessions.{Half, half, Stands, StandsAt, Session, SessionStands, IsSafe, IsSettled, Reaches, LawSessions, decision_of, entry_is}
+use Rattle.satp_sides.specs.Halves.{Half, half, entry_is}
+use Rattle.satp_world.specs.Sessions.{Stands, StandsAt, Session, SessionStands, IsSafe, IsSettled, Reaches, LawSessions, decision_of}
 use Rattle.satp_world.specs.Sessions.Reaches.{Begins, Goes}
 use Rattle.satp_world.proofs.Logic.{both-left, both-right, both-make, negate-use, either-split}
 use Rattle.satp_world.proofs.DealSteps.{decision-is, entry-is}

@@ -10,7 +10,8 @@ use Rattle.satp_base.specs.Roles.{both, either, negate, no_way, is_commit}
 use Rattle.satp_base.proofs.Finite.{all_of, andthen, implies}
 use Rattle.satp_base.proofs.TaleTable.{begun_tales, tale_eq}
 use Rattle.satp_world.specs.Deal.{Decision}
-use Rattle.satp_world.specs.Sessions.{Half, decision_of, entry_is}
+use Rattle.satp_sides.specs.Halves.{Half, entry_is}
+use Rattle.satp_world.specs.Sessions.{decision_of}
 use Rattle.satp_world.proofs.TaleSteps.{extensions}
 use Rattle.satp_world.proofs.HalfTable.{Head, origins, recipients}
 use Rattle.satp_world.proofs.HalfTest.{decision_is, pairs_ok}

@@ -3,7 +3,8 @@ use Rattle.std.proofs.Common.{◌≡◌, Bool, true, List, [], ◌∷◌, ◌++�
 use Rattle.satp_base.specs.declared.message.Kind.{Kind}
 use Rattle.satp_base.specs.declared.message.Kind.TheVariants.{TransferProposal}
 use Rattle.satp_base.specs.Tales.{IsTale, has, maker}
-use Rattle.satp_world.specs.Sessions.{Half, Tied, Stands}
+use Rattle.satp_sides.specs.Halves.{Half}
+use Rattle.satp_world.specs.Sessions.{Tied, Stands}
 use Rattle.satp_world.specs.Sessions.Tied.{Same, Origin_ahead, Recipient_ahead}
 use Rattle.satp_base.proofs.Finite.{all_of, andthen-left, andthen-right, all_of-at}
 use Rattle.satp_world.proofs.TaleSteps.{begun-in, extensions, extension-in}

@@ -12,8 +12,10 @@ use Rattle.satp_base.specs.Tales.{IsTale, has, kind_eq}
 use Rattle.satp_base.proofs.Finite.{all_of, all_of-at, in_nothing}
 use Rattle.satp_base.proofs.Finite.In.{here}
 use Rattle.satp_base.proofs.TaleTable.{kind_eq-is}
+use Rattle.satp_sides.specs.Points.{tale_of}
 use Rattle.satp_world.specs.Deal.{Deal}
-use Rattle.satp_world.specs.Sessions.{Half, half, OriginStands, RecipientStands, Tied, Moves, GoesOn, StandsAt, LawStep, tale_of, deal_of}
+use Rattle.satp_sides.specs.Halves.{Half, half, OriginStands, RecipientStands}
+use Rattle.satp_world.specs.Sessions.{Tied, Moves, GoesOn, StandsAt, LawStep, deal_of}
 use Rattle.satp_world.specs.Sessions.Tied.{Same, Origin_ahead, Recipient_ahead}
 use Rattle.satp_world.specs.Sessions.SessionMoves.{Proposes, Accepts, Origin_moves, Recipient_moves}
 use Rattle.satp_world.proofs.TaleSteps.{in-begun}

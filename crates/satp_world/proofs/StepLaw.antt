@@ -16,7 +16,8 @@ use Rattle.satp_base.specs.Tales.{IsTale, maker, is_role, is_whole, other}
 use Rattle.satp_base.specs.declared.view.View.{View}
 use Rattle.satp_base.specs.Views.{push}
 use Rattle.satp_base.specs.Roles.{both, negate, no_way, next_of, After, Other}
-use Rattle.satp_world.specs.Sessions.{Half, OriginStands, RecipientStands, Tied, Stands, Moves, Agrees, GoesOn, after_record, with_entry, can_do, entry_is}
+use Rattle.satp_sides.specs.Halves.{Half, OriginStands, RecipientStands, Agrees, after_record, with_entry, can_do, entry_is}
+use Rattle.satp_world.specs.Sessions.{Tied, Stands, Moves, GoesOn}
 use Rattle.satp_world.specs.Sessions.Tied.{Same, Origin_ahead, Recipient_ahead}
 use Rattle.satp_world.specs.Sessions.Moves.{Appends, Learns, Takes, Decides, Acts}
 use Rattle.satp_base.proofs.Finite.{andthen, implies, all_of, In, andthen-left, andthen-right, implies-use, all_of-at, in_nothing}
@@ -29,6 +30,7 @@ use Rattle.satp_world.proofs.Logic.{negate-make, both-left, both-right, both-mak
 use Rattle.satp_world.proofs.HalfComplete.{head_of, in_origins, in_recipients}
 use Rattle.satp_world.proofs.HalfSound.{origin-test, origin-stands, recipient-test, recipient-stands}
 use Rattle.satp_world.proofs.DealSteps.{goes_on, entry-is}
+use Rattle.satp_sides.proofs.Records.{push-head}
 use Rattle.satp_world.proofs.HalfCheck.{all_ok}
 
 -- what stands of a side, by its role
@@ -286,14 +288,6 @@ recipient-facts a b s r (Recipient_ahead k m e) =
     record { more = []; even = false; side = r; tied = Recipient_ahead k m e; more_is = λ k i. absurd (in_nothing i); even_is = λ h. absurd (cc h); ok = (recipient-ahead a b s r k m e).1; take = λ j q n. absurd (snoc_twice a.view.tale b.view.tale k j e q) }
 
 -- ---- a move keeps whose view it is, and its terms
-
-pub push-head : (v : View) (r : Rec) → ((push v r).role ≡ v.role) × ((push v r).terms ≡ v.terms)
-push-head v (Began role terms) = (refl, refl)
-push-head v (Took kind) = (refl, refl)
-push-head v (Made kind) = (refl, refl)
-push-head v (Did op) = (refl, refl)
-push-head v (Chose way) = (refl, refl)
-push-head v Rescue = (refl, refl)
 
 pub same-head : (role : Role) (h : Half) (peer : List Kind) (new : Half) → Moves role h peer new → (new.view.role ≡ h.view.role) × (new.view.terms ≡ h.view.terms)
 same-head role h peer new (Appends r e) = push-head h.view r

@@ -11,12 +11,17 @@ use Rattle.satp_base.specs.declared.message.Terms.{Terms}
 use Rattle.satp_base.specs.declared.name.Name.{Name}
 use Rattle.satp_base.specs.declared.session.SessionId.{SessionId}
 use Rattle.satp_base.specs.declared.view.View.{View}
-use Rattle.satp_world.specs.Sessions.{IsSettled, StandsAt, entry_is}
-use Rattle.satp_world.specs.Worlds.{Gateway, IsSafeWorld, Reached, Setting, Side, SideMoves, Text, World, name_at, opposite, session_in, side_at, view_in}
+use Rattle.satp_sides.specs.Moves.{SideMoves}
+use Rattle.satp_sides.specs.Points.{Party, Side, Text, view_in}
+use Rattle.satp_sides.specs.Halves.{entry_is}
+use Rattle.satp_world.specs.Sessions.{IsSettled, StandsAt}
+use Rattle.satp_world.specs.Worlds.{Gateway, IsSafeWorld, Reached, Setting, party_at, World, name_at, opposite, session_in, side_at}
 use Rattle.satp_world.specs.Worlds.Gateway.{A, B}
 use Rattle.satp_world.specs.Worlds.Reached.{Begins, Goes}
 use Rattle.satp_world.specs.Worlds.WorldMoves.{By}
-use Rattle.satp_world.specs.Worlds.SideMoves.{Proposes, Accepts, Takes, Makes, Notes, Acts, Says, Stops}
+use Rattle.satp_sides.specs.Moves.SideMoves.{Moves, Stops}
+use Rattle.satp_sides.specs.Points.Move.{Appends, Acts, Says}
+use Rattle.satp_base.specs.LedgerRule.{operation}
 use Rattle.satp_world.specs.Totals.{AllSettled, LawTotal}
 use Rattle.satp_world.proofs.Amounts.{worth}
 use Rattle.satp_world.proofs.Books.{IsCovered, Kept, all-covered, covered-first, owners-cover, owners-within, rule-keeps, sums-within}
@@ -30,25 +35,21 @@ record IsFounded (a b : Founding) (w : World) : Type 0 where
   covered_a : IsCovered w.a.book
   covered_b : IsCovered w.b.book
 
-side-kept : (st : Setting) (g : Gateway) (side : Side) (bag : List Text) (new : Side) (more : List Text) → SideMoves st g side bag new more → IsCovered side.book → Kept side.book new.book
-side-kept st g side bag _ _ (Proposes s terms n e c) k = record { genesis = refl; covered = k }
-side-kept st g side bag _ _ (Accepts s terms text n e c d z) k = record { genesis = refl; covered = k }
-side-kept st g side bag _ _ (Takes s v p text e rule f d z) k = record { genesis = refl; covered = k }
-side-kept st g side bag _ _ (Makes s v p e rule f) k = record { genesis = refl; covered = k }
-side-kept st g side bag _ _ (Notes s v r e rule m l) k = record { genesis = refl; covered = k }
-side-kept st g side bag _ _ (Acts s v op answer book e due rule) k = rule-keeps side.book op s v.terms answer book k rule
-side-kept st g side bag _ _ (Says u z) k = record { genesis = refl; covered = k }
-side-kept st g side bag _ _ Stops k = record { genesis = refl; covered = k }
+side-kept : (p : Party) (side : Side) (bag : List Text) (new : Side) (more : List Text) → SideMoves p side bag new more → IsCovered side.book → Kept side.book new.book
+side-kept p side bag _ _ (Moves (Appends x) m) k = record { genesis = refl; covered = k }
+side-kept p side bag _ _ (Moves (Acts s op terms) m) k = rule-keeps side.book op s terms m.answer (operation side.book op s terms).after k m.rule
+side-kept p side bag _ _ (Moves (Says u) m) k = record { genesis = refl; covered = k }
+side-kept p side bag _ _ Stops k = record { genesis = refl; covered = k }
 
 founded : (st : Setting) (a b : Founding) (w : World) → Reached st a b w → IsFounded a b w
 founded st a b _ Begins = record { first = refl; second = refl; covered_a = covered-first a; covered_b = covered-first b }
 founded st a b _ (Goes w v r (By A side bag m)) =
     let f = founded st a b w r in
-    let k = side-kept st A w.a w.bag side bag m f.covered_a in
+    let k = side-kept (party_at st A) w.a w.bag side bag m f.covered_a in
     record { first = k.genesis ∙ f.first; second = f.second; covered_a = k.covered; covered_b = f.covered_b }
 founded st a b _ (Goes w v r (By B side bag m)) =
     let f = founded st a b w r in
-    let k = side-kept st B w.b w.bag side bag m f.covered_b in
+    let k = side-kept (party_at st B) w.b w.bag side bag m f.covered_b in
     record { first = f.first; second = k.genesis ∙ f.second; covered_a = f.covered_a; covered_b = k.covered }
 
 -- ---- one session on both ledgers

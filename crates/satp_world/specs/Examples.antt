@@ -16,8 +16,9 @@ use Rattle.satp_base.specs.declared.message.Body.{Body}
 use Rattle.satp_base.specs.declared.message.Body.TheVariants as body
 use Rattle.satp_base.specs.declared.session.SessionId.{SessionId}
 use Rattle.satp_base.specs.Signatures.{own}
-use Rattle.satp_world.specs.Sessions.{tale_of}
-use Rattle.satp_world.specs.Worlds.{Among, IsSettledAt, Reached, Setting, Text, World, message_from, session_in}
+use Rattle.satp_sides.specs.Moves.{Among, message_from}
+use Rattle.satp_sides.specs.Points.{tale_of, Text}
+use Rattle.satp_world.specs.Worlds.{IsSettledAt, Reached, Setting, World, party_at, session_in}
 use Rattle.satp_world.specs.Worlds.Gateway.{A, B}
 use Rattle.satp_world.specs.Worlds.{Gateway}
 
@@ -39,7 +40,7 @@ CanEnd st a b s tale mine peer = (world : World) × Ends st a b s tale mine peer
 
 -- the gateway has said this of the session
 abbrev pub HasSaid : Setting → Gateway → SessionId → Body → List Text → Type 0
-HasSaid st g s b bag = Among (own st.key (message_from st g s b)) bag
+HasSaid st g s b bag = Among (own st.key (message_from (party_at st g) s b)) bag
 
 -- the recovery messages of a round that the origin has started, `entries` those of the answer
 pub record HasRound (st : Setting) (s : SessionId) (entries : ℕ) (bag : List Text) : Type 0 where

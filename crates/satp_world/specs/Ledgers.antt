@@ -11,7 +11,7 @@ use Rattle.satp_base.specs.declared.ledger.LedgerOp.{LedgerOp}
 use Rattle.satp_base.specs.declared.message.Terms.{Terms}
 use Rattle.satp_base.specs.declared.session.SessionId.{SessionId}
 use Rattle.satp_world.specs.Examples.{first_book}
-use Rattle.satp_world.specs.Sessions.{Agrees}
+use Rattle.satp_sides.specs.Halves.{Agrees}
 
 -- What the rule answers agrees with the session's entries, before and after.
 abbrev pub RuleAgrees : Type 0

@@ -5,3 +5,4 @@ pub mod Examples
 pub mod Ledgers
 pub mod Totals
 pub mod Limits
+pub mod Kept

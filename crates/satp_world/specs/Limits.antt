@@ -14,8 +14,9 @@ use Rattle.satp_base.specs.declared.message.Message.{Message}
 use Rattle.satp_base.specs.declared.message.Part.{Part}
 use Rattle.satp_base.specs.declared.message.Role.{Role}
 use Rattle.satp_base.specs.declared.session.SessionId.{SessionId}
-use Rattle.satp_world.specs.Sessions.{tale_of}
-use Rattle.satp_world.specs.Worlds.{Among, Delivered, Gateway, Reached, Sayable, Setting, Text, World, WorldMoves, begun, chain_in, last_texts, maker_side, message_from, most_sessions, name_at, opposite, records_of, session_in, side_at}
+use Rattle.satp_sides.specs.Moves.{Among, Delivered, Sayable, last_texts, message_from}
+use Rattle.satp_sides.specs.Points.{tale_of, Text, begun, chain_in, most_sessions, records_of}
+use Rattle.satp_world.specs.Worlds.{Gateway, Reached, party_at, Setting, World, WorldMoves, maker_side, name_at, opposite, session_in, side_at}
 
 -- What a body says of a chain with these texts: that the text stands there at its place, how long the chain is and its last link, or its last texts.
 abbrev pub SaysOf : List Text → Text → Body → Type 0
@@ -52,11 +53,11 @@ pub record IsLimited (st : Setting) (w : World) : Type 0 where
   -- a text that its maker's chain doesn't hold was never delivered, so that nobody takes it
   pub no_forgery : (t : Text) (g : Gateway) (s : SessionId) → s.gateway ≡ name_at st g → (n : ℕ) (previous : Link) (part : Part)
       → IsMessage (message_at s (name_at st (opposite g)) (n + 1) previous part) → t ≡ own st.key (message_at s (name_at st (opposite g)) (n + 1) previous part)
-      → slice_get (chain_in s (side_at w (maker_side g (role_at (n + 1)))).records) n ≢ Some t → ¬ Delivered st w.bag t
+      → slice_get (chain_in s (side_at w (maker_side g (role_at (n + 1)))).records) n ≢ Some t → ¬ Delivered st.key w.bag t
   -- no message of the peer is said, none of another chain, and no update of three messages
-  pub no_other_text : (g : Gateway) (t : Text) → Sayable st g (side_at w g).records w.bag t → IsOneOf st w g t
+  pub no_other_text : (g : Gateway) (t : Text) → Sayable (party_at st g) (side_at w g).records w.bag t → IsOneOf st w g t
   -- nothing is said of a session that the records don't name, unless the peer asked
-  pub no_idle_answer : (g : Gateway) (s : SessionId) → records_of s (side_at w g).records ≡ [] → Sayable st g (side_at w g).records w.bag (own st.key (message_from st g s (body.Update 0 []))) → WasAsked st w g s
+  pub no_idle_answer : (g : Gateway) (s : SessionId) → records_of s (side_at w g).records ≡ [] → Sayable (party_at st g) (side_at w g).records w.bag (own st.key (message_from (party_at st g) s (body.Update 0 []))) → WasAsked st w g s
   -- a gateway begins at most 2,048 sessions in each role
   pub no_more_sessions : (g : Gateway) (role : Role) → begun role (side_at w g).records ≤ most_sessions
 
@@ -64,4 +65,4 @@ pub record IsLimited (st : Setting) (w : World) : Type 0 where
 abbrev pub LawLimits : Type 0
 LawLimits =
     ((st : Setting) (a b : Founding) (w : World) → Reached st a b w → IsLimited st w)
-    × ((st : Setting) (g : Gateway) (t : Text) → ¬ Sayable st g [] [] t)
+    × ((st : Setting) (g : Gateway) (t : Text) → ¬ Sayable (party_at st g) [] [] t)

@@ -6,7 +6,8 @@ use Rattle.satp_base.specs.Money.{free_of, free_sum_of, held_of_all}
 use Rattle.satp_base.specs.declared.name.Name.{Name}
 use Rattle.satp_base.specs.declared.session.SessionId.{SessionId}
 use Rattle.satp_base.specs.declared.view.View.{View}
-use Rattle.satp_world.specs.Worlds.{Gateway, IsSettledAt, Reached, Setting, World, name_at, side_at, view_in}
+use Rattle.satp_sides.specs.Points.{view_in}
+use Rattle.satp_world.specs.Worlds.{Gateway, IsSettledAt, Reached, Setting, World, name_at, side_at}
 
 -- every session that a gateway has begun is settled
 abbrev pub AllSettled : Setting → World → Type 0

@@ -7,6 +7,7 @@ ghost use Rattle.satp_world.specs.Sessions.{LawSessions, LawStep};
 ghost use Rattle.satp_world.specs.Worlds.{LawSafety};
 ghost use Rattle.satp_world.specs.Examples.{LawEndings};
 ghost use Rattle.satp_world.specs.Ledgers.{AgreedIsAnswered, RuleAgrees};
+ghost use Rattle.satp_world.specs.Kept.{BagWasSaid, LogsAreKept, MovesReach, RoomLeft, SaidIsShort, SenderKnows};
 ghost use Rattle.satp_world.specs.Limits.{LawLimits};
 ghost use Rattle.satp_world.specs.Totals.{LawTotal};
 
@@ -55,4 +56,17 @@ pub fn law_limits()
 /// every begun session is settled.
 pub fn law_total()
     ensures { LawTotal }
+{}
+
+/// In every world that moves of both gateways lead to, the records of each side are a log, so that no opening refuses
+/// the journal of an honest gateway, and each text that was said stands in its sender's records. Each list of moves of
+/// one side leads on to such a world. Whoever sent a text knows its session, but for the answer that it doesn't, to a
+/// peer that does; there is room for each session that the peer has begun; and no text is too long to be heard.
+pub fn law_kept()
+    ensures logs { LogsAreKept }
+    ensures said { BagWasSaid }
+    ensures moves { MovesReach }
+    ensures sender { SenderKnows }
+    ensures room { RoomLeft }
+    ensures short { SaidIsShort }
 {}

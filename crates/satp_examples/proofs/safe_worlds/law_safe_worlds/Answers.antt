@@ -9,17 +9,18 @@ use Rattle.satp_base.specs.declared.message.Role.TheVariants.{Origin, Recipient}
 use Rattle.satp_base.specs.declared.name.Name.{Name}
 use Rattle.satp_base.specs.declared.record.Rec.TheVariants.{Began}
 use Rattle.satp_base.specs.declared.view.View.{View}
-use Rattle.satp_world.specs.Worlds.{IsSafeWorld, Reached, Setting, Side, Stored, Text, TiedTexts, World, chain_in, start, view_in}
-use Rattle.satp_world.specs.Worlds.Among.{first as among_first}
-use Rattle.satp_world.specs.Worlds.Delivered.{Alone}
+use Rattle.satp_world.specs.Worlds.{IsSafeWorld, Reached, Setting, TiedTexts, World, start}
+use Rattle.satp_sides.specs.Moves.Among.{first as among_first}
+use Rattle.satp_sides.specs.Moves.Delivered.{Alone}
 use Rattle.satp_world.specs.Worlds.Gateway.{A, B}
 use Rattle.satp_world.specs.Worlds.Reached.{Begins, Goes}
-use Rattle.satp_world.specs.Worlds.Sayable.{Own_text}
-use Rattle.satp_world.specs.Worlds.SideMoves.{Accepts, Proposes, Says}
+use Rattle.satp_sides.specs.Moves.Sayable.{Own_text}
+use Rattle.satp_sides.specs.Moves.SideMoves.{Accepts, Proposes, Says}
 use Rattle.satp_world.specs.Worlds.TiedTexts.{Same, Origin_ahead, Recipient_ahead}
 use Rattle.satp_world.specs.Worlds.WorldMoves.{By}
 use Rattle.satp_base.proofs.ChainLemmas.{zero_formed}
-use Rattle.satp_world.proofs.Records.{chain-here, session-self, view-first}
+use Rattle.satp_sides.specs.Points.{Side, Stored, Text, chain_in, view_in}
+use Rattle.satp_sides.proofs.Records.{chain-here, session-self, view-first}
 use Rattle.satp_world.proofs.WorldLaw.{law_safety}
 use Rattle.satp_examples.specs.Ledgers.{book_with, with_gold}
 use Rattle.satp_examples.specs.SafeWorlds.{ann_1, begun_with, between, first, proposal_of, side_with}

@@ -12,7 +12,7 @@ pub loop-index-init : goal.loop-index-init
 loop-index-init g c =
     let told = g.D.Device.told c.args.disk.now in
     let held = c.args.journal.now.held in
-    (c.requires.area, c.requires.whole, c.requires.fits, c.requires.rests, list_none c.args.texts.now held.payloads told c.requires.empty, stored_none c.args.texts.now told, omega (arith, c.requires.records), omega (arith, c.requires.bytes), refl, omega arith)
+    (c.requires.area, c.requires.whole, c.requires.fits, c.requires.rests, list_none c.args.texts.now held.payloads told c.requires.empty, stored_none c.args.texts.now told, omega (arith, c.requires.records), omega (arith, c.requires.bytes), refl, refl, g.D.Device.beside_same c.args.disk.now)
 
 pub unreachable-requires : goal.unreachable-requires
 unreachable-requires g c =
@@ -35,7 +35,7 @@ enough g c memory =
 pub returns-in-Err-clause-cause : goal.returns-in-Err-clause-cause
 returns-in-Err-clause-cause g c =
     let failed = append_failed c.bytes.result.now c.loop-index.journal.held c.append.new.self.held (g.D.Device.told c.loop-index.disk) (g.D.Device.told c.append.new.disk) c.in-Err.field-0 c.loop-index.invariant.1 (enough g c) c.in-Err.ensures.answers in
-    record { later = omega (arith, c.loop-index.invariant.9, c.in-Err.ensures.later); failed = omega (arith, c.loop-index.invariant.9, c.in-Err.ensures.cause failed.0) }
+    record { later = omega (arith, c.loop-index.invariant.9, c.in-Err.ensures.later); kept = tt; failed = omega (arith, c.loop-index.invariant.9, c.in-Err.ensures.cause failed.0) }
 
 pub returns-in-Err-clause-err : goal.returns-in-Err-clause-err
 returns-in-Err-clause-err g c =
@@ -69,5 +69,6 @@ loop-index-preserved g c =
       omega (arith, is.6, c.in-Ok.ensures.records),
       omega (arith, is.7, c.in-Ok.ensures.bytes, taken_more texts i q at),
       c.in-Ok.ensures.ledger ∙ is.8,
-      omega (arith, is.9, c.in-Ok.ensures.later),
+      c.in-Ok.ensures.kept ∙ is.9,
+      g.D.Device.beside_then c.args.disk.now c.loop-index.disk c.append.new.disk is.10 c.in-Ok.ensures.beside,
     )

@@ -4,7 +4,8 @@ use Rattle.std.specs.List.{sum_by}
 use Rattle.satp_base.specs.declared.area.Area.TheVariants.{Ledger}
 use Rattle.satp_journal.specs.Opening.{Rests}
 use Rattle.satp_journal.specs.State.{Fits}
-use Rattle.satp_keeper.specs.Founding.{Makes, stored_calls}
+use Rattle.satp_base.specs.Calls.{Makes}
+use Rattle.satp_keeper.specs.Founding.{stored_calls}
 use Rattle.satp_keeper.proofs.founding.append_all.Given as goal
 
 abbrev pub invariant-loop-index : goal.invariant-loop-index
@@ -13,4 +14,4 @@ invariant-loop-index g l =
     (l.journal.held.area ≡ Ledger) × (l.journal.held.broken ≡ false) × Fits l.journal.held told × Rests told l.journal.held × IfSome told (λ t. l.journal.held.payloads ≡ take l.index l.texts)
     × Makes (stored_calls (take l.index l.texts)) (g.D.Device.told l.initial.disk) told
     × (length l.texts ≤ l.index + l.journal.spare_records) × (sum_by length l.texts ≤ sum_by length (take l.index l.texts) + l.journal.spare_bytes)
-    × (g.D.Device.book l.disk ≡ g.D.Device.book l.initial.disk) × (g.D.Device.faults l.initial.disk ≤ g.D.Device.faults l.disk)
+    × (g.D.Device.book l.disk ≡ g.D.Device.book l.initial.disk) × (g.D.Device.faults l.disk ≡ g.D.Device.faults l.initial.disk) × g.D.Device.beside l.initial.disk l.disk

@@ -2,9 +2,10 @@ use Rattle.std.proofs.Common.{List, ℕ, [], ◌≤◌, ◌+◌, length, subst, 
 use Rattle.std.specs.List.{AllByRecursion}
 use Rattle.satp_base.specs.Format.{IsPayload}
 use Rattle.satp_keeper.specs.Books.{ledger_payloads}
-use Rattle.satp_keeper.specs.Founding.{FailsWithin, Makes, clear_calls, stored_calls}
+use Rattle.satp_base.specs.Calls.{FailsAmong, Makes}
+use Rattle.satp_keeper.specs.Founding.{clear_calls, stored_calls}
 use Rattle.satp_keeper.proofs.ClearLemmas.{wider}
-use Rattle.satp_keeper.proofs.FoundCalls.{fails_more, makes_more}
+use Rattle.satp_base.proofs.Made.{fails_more, makes_more}
 use Rattle.satp_keeper.proofs.FoundLemmas.{all_fit, few_payloads, fresh_leaves}
 use Rattle.satp_keeper.proofs.founding.set_up.Goals as goal
 
@@ -32,7 +33,7 @@ returns-in-Err-append_all-clause-answers g c =
     let old = g.D.Device.told c.args.disk.now in
     let mid = g.D.Device.told c.open_empty.new.disk in
     let new = g.D.Device.told c.append_all.new.disk in
-    fails_more clear_calls (stored_calls (ledger_payloads c.args.kind c.args.genesis.now [])) old mid new c.in-Ok-open_empty.ensures.answers (subst (λ (l : List (List ℕ)). FailsWithin (stored_calls l) mid new) c.in-Ok-first_payloads.ensures.list c.in-Err-append_all.ensures.err)
+    fails_more clear_calls (stored_calls (ledger_payloads c.args.kind c.args.genesis.now [])) old mid new c.in-Ok-open_empty.ensures.answers (subst (λ (l : List (List ℕ)). FailsAmong (stored_calls l) mid new) c.in-Ok-first_payloads.ensures.list c.in-Err-append_all.ensures.err)
 
 pub returns-in-Ok-append_all-clause-leaves : goal.returns-in-Ok-append_all-clause-leaves
 returns-in-Ok-append_all-clause-leaves g c =

@@ -1,0 +1,9 @@
+use Rattle.satp_sides.proofs.MoveLaw.{moves-go}
+use Rattle.satp_sides.proofs.SaidLaw.{said-is-kept}
+use Rattle.satp_sides.proofs.law_moves.Goals as goal
+
+pub returns-clause-go : goal.returns-clause-go
+returns-clause-go c = moves-go
+
+pub returns-clause-said : goal.returns-clause-said
+returns-clause-said c = said-is-kept

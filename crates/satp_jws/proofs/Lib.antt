@@ -1,4 +1,4 @@
 mod BlockLemmas
-mod HeaderLemmas
+pub mod HeaderLemmas
 mod PartLemmas
 mod VerifyLemmas

@@ -1,3 +1,2 @@
 pub mod Hearing
 pub mod Folding
-pub mod Journals

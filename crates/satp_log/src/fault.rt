@@ -1,3 +1,7 @@
+ghost use Rattle.std.specs.Prelude.{◌≡◌};
+ghost use Rattle.satp_log.specs.declared.fault.Misfit.TheVariants.{Memory};
+
+use satp_base::Memory;
 use satp_canon::CanonFault;
 use satp_jws::JwsFault;
 
@@ -14,13 +18,21 @@ pub enum Unheard {
     Memory,
 }
 
-/// Why a record isn't added to a session.
+/// Why a record isn't added to those before it.
 #[derive(Clone, Copy, Debug, PartialEq, Eq)]
 pub enum Misfit {
     /// It may not come next.
     Refused,
     /// No memory was found.
     Memory,
+}
+
+impl From<Memory> for Misfit {
+    ghost from_gives = { λ _ misfit. misfit ≡ Memory };
+
+    fn from(_memory: Memory) -> Misfit {
+        Misfit::Memory
+    }
 }
 
 /// Why payloads are no gateway's journal.

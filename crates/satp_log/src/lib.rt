@@ -2,11 +2,11 @@
 #![tactic(auto)]
 
 mod fault;
-mod hear;
-mod log;
+mod hearing;
+
 mod state;
 
 pub use fault::{LogFault, Misfit, Unheard};
-pub use hear::hear;
-pub use log::Log;
+pub use hearing::hear;
+
 pub use state::SessionState;

@@ -1,2 +1,5 @@
 pub mod Samples
 pub mod Answers
+pub mod Work
+pub mod Ends
+pub mod Recovery

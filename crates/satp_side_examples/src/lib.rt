@@ -4,10 +4,34 @@
 #![tactic(auto)]
 
 ghost use Rattle.satp_side_examples.specs.Answers.{Addresses, FirstMessages, MessagesAgain};
+ghost use Rattle.satp_side_examples.specs.Ends.{AbortsAsked, Beginnings, WorkAsked};
+ghost use Rattle.satp_side_examples.specs.Recovery.{RoundsAnswered, RoundsStarted, SuccessesHeard, UpdatesHeard};
+ghost use Rattle.satp_side_examples.specs.Work.{LocksAndBurns, Mints};
 
 /// Messages of a chain: the first ones of a session, who may say what to whom, and one that comes again.
 pub fn law_answers()
     ensures first { FirstMessages }
     ensures addresses { Addresses }
     ensures again { MessagesAgain }
+{}
+
+/// What is done after a message that is taken, for each answer of the ledger.
+pub fn law_work()
+    ensures mints { Mints }
+    ensures locks { LocksAndBurns }
+{}
+
+/// Starts up to the last one, calls for due work, and aborts with those that come too late.
+pub fn law_ends()
+    ensures begin { Beginnings }
+    ensures work { WorkAsked }
+    ensures aborts { AbortsAsked }
+{}
+
+/// Recovery rounds: what the side says that starts one, what it is answered, what it makes of that, and the end.
+pub fn law_recovery()
+    ensures started { RoundsStarted }
+    ensures answered { RoundsAnswered }
+    ensures heard { UpdatesHeard }
+    ensures ended { SuccessesHeard }
 {}

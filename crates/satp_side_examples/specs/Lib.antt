@@ -3,3 +3,4 @@ pub mod Answers
 pub mod Work
 pub mod Ends
 pub mod Recovery
+pub mod Journals

@@ -5,6 +5,7 @@
 
 ghost use Rattle.satp_side_examples.specs.Answers.{Addresses, FirstMessages, MessagesAgain};
 ghost use Rattle.satp_side_examples.specs.Ends.{AbortsAsked, Beginnings, WorkAsked};
+ghost use Rattle.satp_side_examples.specs.Journals.{JournalsOfASession, RecordsCaseByCase, RecordsThatMayNotCome};
 ghost use Rattle.satp_side_examples.specs.Recovery.{RoundsAnswered, RoundsStarted, SuccessesHeard, UpdatesHeard};
 ghost use Rattle.satp_side_examples.specs.Work.{LocksAndBurns, Mints};
 
@@ -34,4 +35,11 @@ pub fn law_recovery()
     ensures answered { RoundsAnswered }
     ensures heard { UpdatesHeard }
     ensures ended { SuccessesHeard }
+{}
+
+/// Which records may be stored: case by case, near misses, and the journals of a whole session.
+pub fn law_journals()
+    ensures cases { RecordsCaseByCase }
+    ensures refused { RecordsThatMayNotCome }
+    ensures whole { JournalsOfASession }
 {}

@@ -4,3 +4,4 @@ pub mod Work
 pub mod Ends
 pub mod Recovery
 pub mod Journals
+pub mod Moving

@@ -6,6 +6,7 @@
 ghost use Rattle.satp_side_examples.specs.Answers.{Addresses, FirstMessages, MessagesAgain};
 ghost use Rattle.satp_side_examples.specs.Ends.{AbortsAsked, Beginnings, WorkAsked};
 ghost use Rattle.satp_side_examples.specs.Journals.{JournalsOfASession, RecordsCaseByCase, RecordsThatMayNotCome};
+ghost use Rattle.satp_side_examples.specs.Moving.{EntriesRead, MovesMade, TextsThatAreSaid, TextsThatCome};
 ghost use Rattle.satp_side_examples.specs.Recovery.{RoundsAnswered, RoundsStarted, SuccessesHeard, UpdatesHeard};
 ghost use Rattle.satp_side_examples.specs.Work.{LocksAndBurns, Mints};
 
@@ -42,4 +43,12 @@ pub fn law_journals()
     ensures cases { RecordsCaseByCase }
     ensures refused { RecordsThatMayNotCome }
     ensures whole { JournalsOfASession }
+{}
+
+/// Which texts come and are said, the entry of an update, and which moves are made.
+pub fn law_moving()
+    ensures come { TextsThatCome }
+    ensures entries { EntriesRead }
+    ensures said { TextsThatAreSaid }
+    ensures moves { MovesMade }
 {}

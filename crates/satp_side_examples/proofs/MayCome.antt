@@ -1,9 +1,8 @@
 -- Records that may come, case by case, both ways.
-use Rattle.std.proofs.Common.{◌≡◌, ◌↔◌, ◌<◌, ℕ, List, [], ◌∷◌, Some, refl, sym, subst, arith}
+use Rattle.std.proofs.Common.{◌≡◌, List, [], Some, refl, sym, subst}
 use Rattle.satp_base.specs.Canonical.{part_kind}
 use Rattle.satp_base.specs.Roles.{RoleRule}
 use Rattle.satp_base.specs.declared.message.Kind.{Kind}
-use Rattle.satp_base.specs.declared.message.Role.{Role}
 use Rattle.satp_base.specs.declared.message.Role.TheVariants.{Origin, Recipient}
 use Rattle.satp_base.specs.declared.record.Rec.{Rec}
 use Rattle.satp_base.specs.declared.record.Rec.TheVariants.{Began, Took, Made, Did, Chose, Rescue}
@@ -12,7 +11,7 @@ use Rattle.satp_base.specs.declared.view.View.{View}
 use Rattle.satp_sides.specs.Logs.{IsNote, MayCome}
 use Rattle.satp_sides.specs.Logs.MayCome.{Starts, Accepts, Takes, Makes, Notes}
 use Rattle.satp_sides.specs.Points.{Party, Stored, Text, stored, view_in}
-use Rattle.satp_side_examples.specs.Journals.{ByRecord, GoesOn, MayBegin, MayGoOn, RecordsCaseByCase}
+use Rattle.satp_side_examples.specs.Journals.{ByRecord, GoesOn, MayGoOn, RecordsCaseByCase}
 
 abbrev goes : (p : Party) (before : List Stored) (s : SessionId) (v : View) (r : Rec) → view_in s before ≡ Some v → RoleRule v.role v r → MayGoOn p before s r
 goes p before s v r e rule = record { view = v; named = e; rule = rule }

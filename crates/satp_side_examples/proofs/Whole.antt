@@ -1,5 +1,5 @@
 -- The records of a whole session, each of which may come after those before it.
-use Rattle.std.proofs.Common.{◌≡◌, ℕ, List, [], ◌∷◌, ◌++◌, take, refl, lit≤, lit<}
+use Rattle.std.proofs.Common.{ℕ, List, [], take, refl, lit≤, lit<}
 use Rattle.satp_base.specs.Roles.RoleRule.{Due, Answered, Free}
 use Rattle.satp_base.specs.Tales.IsTale.{Onward}
 use Rattle.satp_base.specs.declared.ledger.Answer.TheVariants as answer
@@ -9,7 +9,7 @@ use Rattle.satp_base.specs.declared.message.Part.TheVariants.{Plain}
 use Rattle.satp_base.specs.declared.message.Terms.{Terms}
 use Rattle.satp_base.specs.declared.record.Rec.TheVariants.{Did, Chose}
 use Rattle.satp_base.specs.declared.record.Way.TheVariants.{Commit}
-use Rattle.satp_sides.specs.Logs.{IsLog, MayCome}
+use Rattle.satp_sides.specs.Logs.{IsLog}
 use Rattle.satp_sides.specs.Logs.MayCome.{Starts, Accepts, Takes, Makes, Notes}
 use Rattle.satp_sides.proofs.LogLaw.{log-grows}
 use Rattle.satp_side_examples.specs.Journals.{whole_text}

@@ -1,5 +1,5 @@
 -- What is answered to the messages of a chain.
-use Rattle.std.specs.Prelude.{◌≡◌, ℕ, false, List, [], ◌∷◌, take, Some, None, Ok, Err}
+use Rattle.std.specs.Prelude.{◌≡◌, ℕ, false, List, [], ◌∷◌, take, Some, None, Ok}
 use Rattle.std.specs.Str.{bytes_eq}
 use Rattle.satp_base.specs.Chains.{link_of, next_text, zero_link}
 use Rattle.satp_base.specs.LedgerRule.{operation}
@@ -11,7 +11,6 @@ use Rattle.satp_base.specs.declared.message.Body.TheVariants as body
 use Rattle.satp_base.specs.declared.message.Kind.TheVariants.{ProposalReceipt, TransferCommence, CommenceAck, LockAssert, CommitPrepare, CommitReady, CommitFinal, CommitFinalAck, TransferComplete, Rollback}
 use Rattle.satp_base.specs.declared.message.Link.{Link}
 use Rattle.satp_base.specs.declared.message.Message.{Message}
-use Rattle.satp_base.specs.declared.message.Part.{Part}
 use Rattle.satp_base.specs.declared.message.Part.TheVariants.{Proposal, Plain}
 use Rattle.satp_base.specs.declared.message.Role.TheVariants.{Recipient}
 use Rattle.satp_base.specs.declared.message.Terms.{Terms}
@@ -42,9 +41,9 @@ pub record FirstMessages : Type 0 where
       (key : List ℕ) (book : Book) (terms : Terms) (t : Text)
       → beta_hears key [] book (chain_message 1 zero_link (Proposal terms)) t
       ≡ record {
-          answer = Some (Ok (Some (receipt key t)));
-          moves = Appends (stored alpha_1 (Began Recipient terms) t) ∷ Appends (stored alpha_1 (Made ProposalReceipt) (receipt key t)) ∷ Says (receipt key t) ∷ [];
-        }
+        answer = Some (Ok (Some (receipt key t)));
+        moves = Appends (stored alpha_1 (Began Recipient terms) t) ∷ Appends (stored alpha_1 (Made ProposalReceipt) (receipt key t)) ∷ Says (receipt key t) ∷ [];
+      }
   -- it isn't answered before it is stored
   pub not_unstored :
       (key : List ℕ) (book : Book) (terms : Terms) (t : Text)
@@ -80,11 +79,11 @@ pub record MessagesAgain : Type 0 where
       (key : List ℕ) (book : Book) (terms : Terms) (text : ℕ → Text) → (operation book Assign alpha_1 terms).answer ≡ Some Done
       → beta_hears key (take 9 (beta_records terms text)) book (chain_message 9 (link_of (text 8)) (Plain CommitFinal)) (text 9)
       ≡ record {
-          answer = Some (Ok (Some (ack key text)));
-          moves =
-              Appends (stored alpha_1 (Took CommitFinal) (text 9)) ∷ Acts alpha_1 Assign terms ∷ Appends (note (Did Assign))
-              ∷ Appends (stored alpha_1 (Made CommitFinalAck) (ack key text)) ∷ Says (ack key text) ∷ [];
-        }
+        answer = Some (Ok (Some (ack key text)));
+        moves =
+            Appends (stored alpha_1 (Took CommitFinal) (text 9)) ∷ Acts alpha_1 Assign terms ∷ Appends (note (Did Assign))
+            ∷ Appends (stored alpha_1 (Made CommitFinalAck) (ack key text)) ∷ Says (ack key text) ∷ [];
+      }
   -- where the entry isn't minted, the work ends within its operation
   pub not_minted :
       (key : List ℕ) (book : Book) (terms : Terms) (text : ℕ → Text) → (operation book Assign alpha_1 terms).answer ≡ None
@@ -95,16 +94,16 @@ pub record MessagesAgain : Type 0 where
       (key : List ℕ) (book : Book) (terms : Terms) (text : ℕ → Text) (previous : Link) → (operation book Assign alpha_1 terms).answer ≡ Some Done
       → beta_hears key (take 10 (beta_records terms text)) book (chain_message 9 previous (Plain CommitFinal)) (text 9)
       ≡ record {
-          answer = Some (Ok (Some (ack key text)));
-          moves = Acts alpha_1 Assign terms ∷ Appends (note (Did Assign)) ∷ Appends (stored alpha_1 (Made CommitFinalAck) (ack key text)) ∷ Says (ack key text) ∷ [];
-        }
+        answer = Some (Ok (Some (ack key text)));
+        moves = Acts alpha_1 Assign terms ∷ Appends (note (Did Assign)) ∷ Appends (stored alpha_1 (Made CommitFinalAck) (ack key text)) ∷ Says (ack key text) ∷ [];
+      }
   pub before_the_end :
       (key : List ℕ) (book : Book) (terms : Terms) (text : ℕ → Text) (previous : Link)
       → beta_hears key (take 12 (beta_records terms text)) book (chain_message 9 previous (Plain CommitFinal)) (text 9) ≡ replied (Some (text 10))
   pub not_stored_twice :
       (key : List ℕ) (book : Book) (terms : Terms) (text : ℕ → Text) (previous : Link)
       → ¬ beta_hears key (take 12 (beta_records terms text)) book (chain_message 9 previous (Plain CommitFinal)) (text 9)
-        ≡ record { answer = Some (Ok (Some (text 10))); moves = Appends (stored alpha_1 (Took CommitFinal) (text 9)) ∷ Says (text 10) ∷ [] }
+      ≡ record { answer = Some (Ok (Some (text 10))); moves = Appends (stored alpha_1 (Took CommitFinal) (text 9)) ∷ Says (text 10) ∷ [] }
   -- an earlier one: before the end, the text after it
   pub earlier :
       (key : List ℕ) (book : Book) (terms : Terms) (text : ℕ → Text) (previous : Link)

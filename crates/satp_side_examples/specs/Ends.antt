@@ -4,7 +4,7 @@ use Rattle.satp_base.specs.Chains.{next_text, zero_link}
 use Rattle.satp_base.specs.Money.{Book}
 use Rattle.satp_base.specs.declared.ledger.Answer.TheVariants as answer
 use Rattle.satp_base.specs.declared.ledger.LedgerOp.TheVariants.{Release}
-use Rattle.satp_base.specs.declared.message.Kind.TheVariants.{ProposalReceipt, CommitPrepare, CommitReady, TransferComplete, Reject, Rollback, RollbackAck}
+use Rattle.satp_base.specs.declared.message.Kind.TheVariants.{ProposalReceipt, TransferComplete, Reject, Rollback, RollbackAck}
 use Rattle.satp_base.specs.declared.message.Part.TheVariants as part
 use Rattle.satp_base.specs.declared.message.Part.TheVariants.{Plain, Proposal}
 use Rattle.satp_base.specs.declared.message.Reason.TheVariants as reason
@@ -14,11 +14,11 @@ use Rattle.satp_base.specs.declared.record.Cause.TheVariants.{Aborted}
 use Rattle.satp_base.specs.declared.record.Rec.TheVariants.{Began, Made, Took, Did, Chose}
 use Rattle.satp_base.specs.declared.record.Way.TheVariants.{Back}
 use Rattle.satp_base.specs.declared.session.SessionId.{SessionId}
-use Rattle.satp_sides.specs.Calls.{Run, Aborts, Hears, Starts, Works, Exists, Full, Strange, TooLate, refused, replied, run_of}
+use Rattle.satp_sides.specs.Calls.{Run, Aborts, Starts, Works, Exists, Full, Strange, TooLate, refused, replied, run_of}
 use Rattle.satp_sides.specs.Points.{Appends, Acts, Says, Slot, Stored, Text, begun, slot_in, stored}
 use Rattle.satp_side_examples.specs.Answers.{beta_hears, receipt}
 use Rattle.satp_side_examples.specs.Samples.{alpha_1, alpha_9, alpha_records, at_alpha, at_beta, beta, beta_records, chain_message, note, side}
-use Rattle.satp_side_examples.specs.Work.{Answers, made_after, makes}
+use Rattle.satp_side_examples.specs.Work.{Answers, made_after}
 
 abbrev starts : List ℕ → List Stored → Book → SessionId → Terms → Run
 starts key records book s terms = run_of (at_alpha key) (side records book) (Starts s terms)
@@ -54,9 +54,9 @@ pub record Beginnings : Type 0 where
       (key : List ℕ) (records : List Stored) (book : Book) (terms : Terms) (t : Text) → begun Recipient records ≡ 2047 → slot_in alpha_1 records ≡ None
       → beta_hears key records book (chain_message 1 zero_link (Proposal terms)) t
       ≡ record {
-          answer = Some (Ok (Some (receipt key t)));
-          moves = Appends (stored alpha_1 (Began Recipient terms) t) ∷ Appends (stored alpha_1 (Made ProposalReceipt) (receipt key t)) ∷ Says (receipt key t) ∷ [];
-        }
+        answer = Some (Ok (Some (receipt key t)));
+        moves = Appends (stored alpha_1 (Began Recipient terms) t) ∷ Appends (stored alpha_1 (Made ProposalReceipt) (receipt key t)) ∷ Says (receipt key t) ∷ [];
+      }
   pub one_more_accepted :
       (key : List ℕ) (records : List Stored) (book : Book) (terms : Terms) (t : Text) → begun Recipient records ≡ 2048 → slot_in alpha_1 records ≡ None
       → beta_hears key records book (chain_message 1 zero_link (Proposal terms)) t ≡ refused (Full 2048)
@@ -103,11 +103,11 @@ pub record AbortsAsked : Type 0 where
       (key : List ℕ) (book : Book) (terms : Terms) (text : ℕ → Text) → Answers book Release terms answer.Done
       → beta_aborts key (take 8 (beta_records terms text)) book alpha_1
       ≡ record {
-          answer = Some (Ok None);
-          moves =
-              Appends (note (Chose (Back Aborted))) ∷ Acts alpha_1 Release terms ∷ Appends (note (Did Release))
-              ∷ Appends (stored alpha_1 (Made Reject) (made_after key text 7 (part.Reject reason.Aborted))) ∷ [];
-        }
+        answer = Some (Ok None);
+        moves =
+            Appends (note (Chose (Back Aborted))) ∷ Acts alpha_1 Release terms ∷ Appends (note (Did Release))
+            ∷ Appends (stored alpha_1 (Made Reject) (made_after key text 7 (part.Reject reason.Aborted))) ∷ [];
+      }
   -- where it waits, the reject is made once a message comes
   pub while_it_waits :
       (key : List ℕ) (book : Book) (terms : Terms) (text : ℕ → Text)

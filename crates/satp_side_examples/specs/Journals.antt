@@ -1,5 +1,5 @@
 -- Which records may be stored, case by case, and a journal of a whole session.
-use Rattle.std.specs.Prelude.{◌≡◌, ◌↔◌, ◌<◌, ℕ, zero, suc, List, [], ◌∷◌, ◌++◌, take, Some, IsTrue}
+use Rattle.std.specs.Prelude.{◌≡◌, ◌↔◌, ◌<◌, ℕ, zero, suc, List, [], ◌∷◌, ◌++◌, Some}
 use Rattle.satp_base.specs.Canonical.{part_kind}
 use Rattle.satp_base.specs.Chains.{next_text}
 use Rattle.satp_base.specs.Forms.{IsPart}
@@ -15,7 +15,6 @@ use Rattle.satp_base.specs.declared.message.Role.TheVariants.{Origin, Recipient}
 use Rattle.satp_base.specs.declared.message.Terms.{Terms}
 use Rattle.satp_base.specs.declared.record.Rec.{Rec}
 use Rattle.satp_base.specs.declared.record.Rec.TheVariants.{Began, Made, Took, Did, Chose, Rescue}
-use Rattle.satp_base.specs.declared.record.Way.TheVariants.{Commit}
 use Rattle.satp_base.specs.declared.session.SessionId.{SessionId}
 use Rattle.satp_base.specs.declared.view.View.{View}
 use Rattle.satp_sides.specs.LogLaws.{IsOfRole}

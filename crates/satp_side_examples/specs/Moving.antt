@@ -19,7 +19,7 @@ use Rattle.satp_base.specs.declared.record.Rec.TheVariants.{Did, Chose}
 use Rattle.satp_base.specs.declared.record.Way.TheVariants.{Back}
 use Rattle.satp_sides.specs.Calls.{IsEntryOf}
 use Rattle.satp_sides.specs.Moves.{AreMoves, Delivered, IsMove, Sayable}
-use Rattle.satp_sides.specs.Points.{Appends, Acts, Party, Stored, Text}
+use Rattle.satp_sides.specs.Points.{Appends, Acts, Party, Text}
 use Rattle.satp_side_examples.specs.Answers.{beta_hears}
 use Rattle.satp_side_examples.specs.Samples.{alpha_1, alpha_records, at_alpha, at_beta, beta, beta_records, chain_message, from_alpha, from_beta, note, side}
 

@@ -1,14 +1,12 @@
 -- What the two sides of a recovery round answer.
-use Rattle.std.specs.Prelude.{◌≡◌, ℕ, false, List, [], ◌∷◌, ◌++◌, take, Option, Some, None, Ok}
+use Rattle.std.specs.Prelude.{◌≡◌, ℕ, false, List, [], ◌∷◌, ◌++◌, take, Option, Some, None}
 use Rattle.std.specs.Str.{bytes_eq}
 use Rattle.satp_base.specs.Chains.{link_of, zero_link}
-use Rattle.satp_base.specs.LedgerRule.{operation}
 use Rattle.satp_base.specs.Money.{Book}
 use Rattle.satp_base.specs.Signatures.{own}
 use Rattle.satp_base.specs.declared.ledger.Answer.TheVariants as answer
 use Rattle.satp_base.specs.declared.ledger.LedgerOp.TheVariants.{Mint, Release}
-use Rattle.satp_base.specs.declared.message.Body.{Body}
-use Rattle.satp_base.specs.declared.message.Body.TheVariants.{Chain, Recover, Update, Success}
+use Rattle.satp_base.specs.declared.message.Body.TheVariants.{Recover, Update, Success}
 use Rattle.satp_base.specs.declared.message.Kind.TheVariants.{ProposalReceipt, CommitPrepare, CommitReady, Rollback}
 use Rattle.satp_base.specs.declared.message.Link.{Link}
 use Rattle.satp_base.specs.declared.message.Message.{Message}
@@ -22,7 +20,7 @@ use Rattle.satp_recovery.specs.declared.choice.RecoveryFault.TheVariants.{Longer
 use Rattle.satp_sides.specs.Calls.{Run, Hears, Rescues, Full, Recovery, refused, replied, run_of}
 use Rattle.satp_sides.specs.Points.{Appends, Acts, Says, Stored, Text, begun, chain_in, slot_in, stored}
 use Rattle.satp_side_examples.specs.Answers.{alpha_hears, beta_hears, receipt}
-use Rattle.satp_side_examples.specs.Samples.{alpha_1, alpha_9, alpha_records, at_alpha, at_beta, beta, beta_records, chain_message, from_alpha, from_beta, gamma, note, side}
+use Rattle.satp_side_examples.specs.Samples.{alpha_1, alpha_9, alpha_records, at_alpha, at_beta, beta_records, chain_message, from_alpha, from_beta, gamma, note, side}
 use Rattle.satp_side_examples.specs.Work.{Answers, made_after, makes, run_to}
 
 -- ---- the side that starts a round
@@ -92,15 +90,15 @@ pub record RoundsAnswered : Type 0 where
       (key : List ℕ) (book : Book) (terms : Terms) (text : ℕ → Text) (t : Text) → Answers book Mint terms answer.Done
       → asked key (take 7 (beta_records terms text)) book 7 (link_of (text 7)) t
       ≡ run_to (update key 8 (made_after key text 7 (Plain CommitReady) ∷ [])) (
-          Acts alpha_1 Mint terms ∷ Appends (note (Did Mint)) ∷ Appends (stored alpha_1 (Made CommitReady) (made_after key text 7 (Plain CommitReady)))
-          ∷ Says (update key 8 (made_after key text 7 (Plain CommitReady) ∷ [])) ∷ [])
+      Acts alpha_1 Mint terms ∷ Appends (note (Did Mint)) ∷ Appends (stored alpha_1 (Made CommitReady) (made_after key text 7 (Plain CommitReady)))
+      ∷ Says (update key 8 (made_after key text 7 (Plain CommitReady) ∷ [])) ∷ [])
   -- its last two, where its work made one more
   pub two_more :
       (key : List ℕ) (book : Book) (terms : Terms) (text : ℕ → Text) (t : Text) → Answers book Mint terms answer.Done
       → asked key (take 7 (beta_records terms text)) book 6 (link_of (text 6)) t
       ≡ run_to (update key 8 (text 7 ∷ made_after key text 7 (Plain CommitReady) ∷ [])) (
-          Acts alpha_1 Mint terms ∷ Appends (note (Did Mint)) ∷ Appends (stored alpha_1 (Made CommitReady) (made_after key text 7 (Plain CommitReady)))
-          ∷ Says (update key 8 (text 7 ∷ made_after key text 7 (Plain CommitReady) ∷ [])) ∷ [])
+      Acts alpha_1 Mint terms ∷ Appends (note (Did Mint)) ∷ Appends (stored alpha_1 (Made CommitReady) (made_after key text 7 (Plain CommitReady)))
+      ∷ Says (update key 8 (text 7 ∷ made_after key text 7 (Plain CommitReady) ∷ [])) ∷ [])
   -- an origin that is asked enters the round too
   pub origin :
       (key : List ℕ) (book : Book) (terms : Terms) (text : ℕ → Text) (t : Text)
@@ -129,7 +127,7 @@ pub record UpdatesHeard : Type 0 where
       (key : List ℕ) (book : Book) (terms : Terms) (text : ℕ → Text) (t : Text)
       → told key (turned terms text) book 8 (text 8 ∷ []) (Some (ready text)) t
       ≡ run_to (made_after key text 8 (Plain Rollback)) (
-          Appends (stored alpha_1 (Took CommitReady) (text 8)) ∷ makes Rollback (made_after key text 8 (Plain Rollback)))
+      Appends (stored alpha_1 (Took CommitReady) (text 8)) ∷ makes Rollback (made_after key text 8 (Plain Rollback)))
   -- an entry that is no message, is of another session, to or from another gateway, or no message of a chain
   pub not_no_message :
       (key : List ℕ) (book : Book) (terms : Terms) (text : ℕ → Text) (t : Text)

@@ -1,6 +1,6 @@
 -- A session that the examples share: alpha is its origin and beta its recipient. Its texts may be any.
 use Rattle.std.proofs.Common.{refl, lit≤}
-use Rattle.std.specs.Prelude.{ℕ, ◌++◌, ◌-◌, List, [], ◌∷◌, codes, length, replicate, map, IsTrue}
+use Rattle.std.specs.Prelude.{ℕ, ◌++◌, ◌-◌, List, [], ◌∷◌, codes, length, replicate, IsTrue}
 use Rattle.satp_base.specs.Chains.{message_at}
 use Rattle.satp_base.specs.Money.{Book}
 use Rattle.satp_base.specs.Names.{holds_name}

@@ -60,8 +60,8 @@ pub record Mints : Type 0 where
       (key : List ℕ) (terms : Terms) (text : ℕ → Text) (book : Book) → Answers book Mint terms answer.Done
       → prepares key terms text book
       ≡ run_to (made_after key text 7 (Plain CommitReady)) (
-          Appends (stored alpha_1 (Took CommitPrepare) (text 7)) ∷ Acts alpha_1 Mint terms ∷ Appends (note (Did Mint))
-          ∷ makes CommitReady (made_after key text 7 (Plain CommitReady)))
+      Appends (stored alpha_1 (Took CommitPrepare) (text 7)) ∷ Acts alpha_1 Mint terms ∷ Appends (note (Did Mint))
+      ∷ makes CommitReady (made_after key text 7 (Plain CommitReady)))
   pub capped :
       (key : List ℕ) (terms : Terms) (text : ℕ → Text) (book : Book) → Answers book Mint terms (answer.Capped 350)
       → prepares key terms text book ≡ rejects key terms text MintCapped reason.MintCapped
@@ -80,21 +80,21 @@ pub record Mints : Type 0 where
       (key : List ℕ) (terms : Terms) (text : ℕ → Text) (book : Book)
       → beta_hears key (take 7 (beta_records terms text) ++ note (Chose (Back MintCapped)) ∷ stored alpha_1 (Made Reject) (text 8) ∷ []) book (chain_message 9 (link_of (text 8)) (Plain Rollback)) (text 9)
       ≡ run_to (made_after key text 9 (Plain RollbackAck)) (
-          Appends (stored alpha_1 (Took Rollback) (text 9)) ∷ makes RollbackAck (made_after key text 9 (Plain RollbackAck)))
+      Appends (stored alpha_1 (Took Rollback) (text 9)) ∷ makes RollbackAck (made_after key text 9 (Plain RollbackAck)))
   -- after a mint that was done there is
   pub released :
       (key : List ℕ) (terms : Terms) (text : ℕ → Text) (book : Book) → Answers book Release terms answer.Done
       → beta_hears key (take 9 (beta_records terms text)) book (chain_message 9 (link_of (text 8)) (Plain Rollback)) (text 9)
       ≡ run_to (made_after key text 9 (Plain RollbackAck)) (
-          Appends (stored alpha_1 (Took Rollback) (text 9)) ∷ Acts alpha_1 Release terms ∷ Appends (note (Did Release))
-          ∷ makes RollbackAck (made_after key text 9 (Plain RollbackAck)))
+      Appends (stored alpha_1 (Took Rollback) (text 9)) ∷ Acts alpha_1 Release terms ∷ Appends (note (Did Release))
+      ∷ makes RollbackAck (made_after key text 9 (Plain RollbackAck)))
   -- and once
   pub not_released_twice :
       (key : List ℕ) (terms : Terms) (text : ℕ → Text) (book : Book)
       → beta_hears key (take 8 (beta_records terms text) ++ note (Chose (Back Aborted)) ∷ note (Did Release) ∷ stored alpha_1 (Made Reject) (text 8) ∷ []) book
-          (chain_message 9 (link_of (text 8)) (Plain Rollback)) (text 9)
+      (chain_message 9 (link_of (text 8)) (Plain Rollback)) (text 9)
       ≡ run_to (made_after key text 9 (Plain RollbackAck)) (
-          Appends (stored alpha_1 (Took Rollback) (text 9)) ∷ makes RollbackAck (made_after key text 9 (Plain RollbackAck)))
+      Appends (stored alpha_1 (Took Rollback) (text 9)) ∷ makes RollbackAck (made_after key text 9 (Plain RollbackAck)))
 
 -- alpha takes commence-ack
 abbrev pub commences : List ℕ → Terms → (ℕ → Text) → Book → Run
@@ -109,46 +109,46 @@ pub record LocksAndBurns : Type 0 where
       (key : List ℕ) (terms : Terms) (text : ℕ → Text) (book : Book) → Answers book Lock terms answer.Done
       → commences key terms text book
       ≡ run_to (made_after key text 4 (Plain LockAssert)) (
-          Appends (stored alpha_1 (Took CommenceAck) (text 4)) ∷ Acts alpha_1 Lock terms ∷ Appends (note (Did Lock))
-          ∷ makes LockAssert (made_after key text 4 (Plain LockAssert)))
+      Appends (stored alpha_1 (Took CommenceAck) (text 4)) ∷ Acts alpha_1 Lock terms ∷ Appends (note (Did Lock))
+      ∷ makes LockAssert (made_after key text 4 (Plain LockAssert)))
   -- a refused lock turns back, in three turns
   pub refused :
       (key : List ℕ) (terms : Terms) (text : ℕ → Text) (book : Book)
       → Answers book Lock terms (answer.NoFunds 1000) → Answers (operation book Lock alpha_1 terms).after Release terms answer.Done
       → commences key terms text book
       ≡ run_to (made_after key text 4 (Plain Rollback)) (
-          Appends (stored alpha_1 (Took CommenceAck) (text 4)) ∷ Acts alpha_1 Lock terms ∷ Appends (note (Chose (Back LockRefused)))
-          ∷ Acts alpha_1 Release terms ∷ Appends (note (Did Release)) ∷ makes Rollback (made_after key text 4 (Plain Rollback)))
+      Appends (stored alpha_1 (Took CommenceAck) (text 4)) ∷ Acts alpha_1 Lock terms ∷ Appends (note (Chose (Back LockRefused)))
+      ∷ Acts alpha_1 Release terms ∷ Appends (note (Did Release)) ∷ makes Rollback (made_after key text 4 (Plain Rollback)))
   -- a release that is out of order ends the work
   pub not_released :
       (key : List ℕ) (terms : Terms) (text : ℕ → Text) (book : Book)
       → Answers book Lock terms (answer.NoFunds 1000) → (operation (operation book Lock alpha_1 terms).after Release alpha_1 terms).answer ≡ None
       → commences key terms text book
       ≡ record {
-          answer = None;
-          moves = Appends (stored alpha_1 (Took CommenceAck) (text 4)) ∷ Acts alpha_1 Lock terms ∷ Appends (note (Chose (Back LockRefused))) ∷ Acts alpha_1 Release terms ∷ [];
-        }
+        answer = None;
+        moves = Appends (stored alpha_1 (Took CommenceAck) (text 4)) ∷ Acts alpha_1 Lock terms ∷ Appends (note (Chose (Back LockRefused))) ∷ Acts alpha_1 Release terms ∷ [];
+      }
   pub burnt :
       (key : List ℕ) (terms : Terms) (text : ℕ → Text) (book : Book) → Answers book Burn terms answer.Done
       → readies key terms text [] book
       ≡ run_to (made_after key text 8 (Plain CommitFinal)) (
-          Appends (stored alpha_1 (Took CommitReady) (text 8)) ∷ Appends (note (Chose Commit)) ∷ Acts alpha_1 Burn terms ∷ Appends (note (Did Burn))
-          ∷ makes CommitFinal (made_after key text 8 (Plain CommitFinal)))
+      Appends (stored alpha_1 (Took CommitReady) (text 8)) ∷ Appends (note (Chose Commit)) ∷ Acts alpha_1 Burn terms ∷ Appends (note (Did Burn))
+      ∷ makes CommitFinal (made_after key text 8 (Plain CommitFinal)))
   -- it burns nothing that it doesn't store its decision of first
   pub not_undecided :
       (key : List ℕ) (terms : Terms) (text : ℕ → Text) (book : Book) (t : Text) → Answers book Burn terms answer.Done
       → ¬ readies key terms text [] book
-        ≡ run_to t (Appends (stored alpha_1 (Took CommitReady) (text 8)) ∷ Acts alpha_1 Burn terms ∷ Appends (note (Did Burn)) ∷ makes CommitFinal t)
+      ≡ run_to t (Appends (stored alpha_1 (Took CommitReady) (text 8)) ∷ Acts alpha_1 Burn terms ∷ Appends (note (Did Burn)) ∷ makes CommitFinal t)
   -- after an abort it rolls back, though the recipient is ready
   pub turned :
       (key : List ℕ) (terms : Terms) (text : ℕ → Text) (book : Book)
       → readies key terms text (note (Chose (Back Aborted)) ∷ note (Did Release) ∷ []) book
       ≡ run_to (made_after key text 8 (Plain Rollback)) (
-          Appends (stored alpha_1 (Took CommitReady) (text 8)) ∷ makes Rollback (made_after key text 8 (Plain Rollback)))
+      Appends (stored alpha_1 (Took CommitReady) (text 8)) ∷ makes Rollback (made_after key text 8 (Plain Rollback)))
   -- a reject, whatever its reason
   pub rejected :
       (key : List ℕ) (terms : Terms) (text : ℕ → Text) (book : Book) (r : Reason) → Answers book Release terms answer.Done
       → alpha_hears key (take 8 (alpha_records terms text)) book (chain_message 8 (link_of (text 7)) (part.Reject r)) (text 8)
       ≡ run_to (made_after key text 8 (Plain Rollback)) (
-          Appends (stored alpha_1 (Took Reject) (text 8)) ∷ Appends (note (Chose (Back Rejected))) ∷ Acts alpha_1 Release terms ∷ Appends (note (Did Release))
-          ∷ makes Rollback (made_after key text 8 (Plain Rollback)))
+      Appends (stored alpha_1 (Took Reject) (text 8)) ∷ Appends (note (Chose (Back Rejected))) ∷ Acts alpha_1 Release terms ∷ Appends (note (Did Release))
+      ∷ makes Rollback (made_after key text 8 (Plain Rollback)))

@@ -1,4 +1,4 @@
-use Rattle.std.proofs.Common.{◌≡◌, ◌<◌, ℕ, Bool, true, false, List, [], ◌∷◌, Option, Some, None, refl, sym, ap, arith, lit<, subst, IsTrue, slice_index, ◌∙◌}
+use Rattle.std.proofs.Common.{◌≡◌, ◌<◌, Bool, true, false, Option, Some, None, refl, sym, ap, arith, lit<, slice_index, ◌∙◌}
 use Rattle.satp_base.specs.Roles.{RoleRule, rescues}
 use Rattle.satp_base.specs.declared.message.Role.TheVariants.{Origin, Recipient}
 use Rattle.satp_base.specs.declared.name.Name.{Name}
@@ -31,7 +31,7 @@ pub returns-clause-refused : goal.returns-clause-refused
 unfolding may_rescue
 returns-clause-refused c = record {
   no_room = λ p before s role terms t many h. let room = (by-record p before _ h).room in absurd (omega (arith, room, many));
-  not_another_gateway = λ key before. elim [ | Origin ↦ λ terms t h. apart alpha gamma (lit< tt) (sym (by-record _ before _ h).named) | Recipient ↦ λ terms t h. apart beta gamma (lit< tt) (sym (by-record _ before _ h).named) ];
+  not_another_gateway = λ key before. elim [ Origin ↦ λ terms t h. apart alpha gamma (lit< tt) (sym (by-record _ before _ h).named) | Recipient ↦ λ terms t h. apart beta gamma (lit< tt) (sym (by-record _ before _ h).named) ];
   not_the_other_role = λ key before terms t h. apart alpha beta (lit< tt) (by-record _ before _ h).named;
   not_twice = λ key terms other text t h. let fresh = (by-record _ _ _ h).fresh in absurd cc;
   not_before_it_began = λ key terms text r op h. let named = (by-record _ _ _ h).0.named in absurd cc;

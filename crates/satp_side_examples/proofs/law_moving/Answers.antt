@@ -1,15 +1,14 @@
-use Rattle.std.proofs.Common.{◌≡◌, ℕ, List, [], ◌∷◌, take, Option, Some, None, refl, sym, ap, subst, lit≤, lit<, ◌∙◌}
+use Rattle.std.proofs.Common.{◌≡◌, ℕ, List, [], ◌∷◌, Option, Some, None, refl, sym, ap, lit≤, lit<, ◌∙◌}
 use Rattle.satp_base.specs.LedgerRule.{entry_of, operation}
 use Rattle.satp_base.specs.Money.{Book}
 use Rattle.satp_base.specs.Roles.{next_of}
 use Rattle.satp_base.specs.Roles.RoleRule.{Due}
 use Rattle.satp_base.specs.Signatures.{own}
 use Rattle.satp_base.specs.Verdicts.{extends}
-use Rattle.satp_base.specs.declared.ledger.Answer.{Answer}
 use Rattle.satp_base.specs.declared.ledger.Answer.TheVariants as answer
-use Rattle.satp_base.specs.declared.ledger.Entry.TheVariants.{Absent, Locked, Minted}
+use Rattle.satp_base.specs.declared.ledger.Entry.TheVariants.{Minted}
 use Rattle.satp_base.specs.declared.ledger.LedgerOp.{LedgerOp}
-use Rattle.satp_base.specs.declared.ledger.LedgerOp.TheVariants.{Lock, Burn, Mint, Assign}
+use Rattle.satp_base.specs.declared.ledger.LedgerOp.TheVariants.{Mint, Assign}
 use Rattle.satp_base.specs.declared.message.Body.{Body}
 use Rattle.satp_base.specs.declared.message.Body.TheVariants.{Chain, Recover, Update, Success}
 use Rattle.satp_base.specs.declared.message.Kind.TheVariants.{ProposalReceipt}
@@ -29,7 +28,7 @@ use Rattle.satp_sides.specs.Calls.{IsEntryOf, refusal_of, run_of}
 use Rattle.satp_sides.specs.Due.{due}
 use Rattle.satp_sides.specs.Logs.MayCome.{Accepts, Makes}
 use Rattle.satp_sides.specs.Moves.{Among, Delivered, IsAct, RefusesNow, Sayable}
-use Rattle.satp_sides.specs.Moves.Among.{first, later}
+use Rattle.satp_sides.specs.Moves.Among.{first}
 use Rattle.satp_sides.specs.Moves.Delivered.{Alone, Listed}
 use Rattle.satp_sides.specs.Moves.Sayable.{Own_text, Recovers, Updates, Succeeds, Knows_none}
 use Rattle.satp_sides.specs.Points.{Party, Side, Text, view_in}

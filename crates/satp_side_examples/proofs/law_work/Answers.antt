@@ -1,4 +1,4 @@
-use Rattle.std.proofs.Common.{◌≡◌, refl, ap, length, arith}
+use Rattle.std.proofs.Common.{◌≡◌, ap, length, arith}
 use Rattle.satp_base.specs.Verdicts.{extends}
 use Rattle.satp_sides.specs.Calls.{Run, refusal_of, run_of}
 use Rattle.satp_sides.specs.Due.{due}

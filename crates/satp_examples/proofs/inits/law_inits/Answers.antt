@@ -165,11 +165,19 @@ there_as told (not_read ready bad printed) = absurd bad
 there_as told (not_set_up bad printed) = absurd bad
 there_as told (is_set_up bad) = absurd bad
 
+abbrev calls_before : Option (List Entering) → ℕ
+calls_before (Some (first ∷ more)) = first.before
+calls_before _ = 0
+
+abbrev succeeded : Option (List Entering) → Bool
+succeeded (Some (first ∷ more)) = first.succeeded
+succeeded _ = false
+
 opened_late : entry 3 true ≡ entry 0 true → ⊥
-opened_late e = absurd cc
+opened_late e = let bad : 3 ≡ 0 = ap calls_before e in omega (arith, bad)
 
 entered_in_vain : entry 0 false ≡ entry 0 true → ⊥
-entered_in_vain e = absurd cc
+entered_in_vain e = let bad : false ≡ true = ap succeeded e in absurd cc
 
 refused_there : EndsAs closed open_text (around (site 0 there None) (over 0 []) (out 0 [])) (GenesisRefused 1) → ⊥
 refused_there (not_ready same (inl (fails, e))) = absurd cc

@@ -46,11 +46,11 @@ finds : Finds JournalA (Some empty) (held []) []
 finds = (refl, search rules, refl, refl)
 
 is_vacant : IsVacant old vacancy
-unfolding old, vacancy
+unfolding old vacancy
 is_vacant = ((journal_of [], refl, ([], finds, refl)), refl)
 
 established : VacantAnswers plan vacancy whole (Ok tt)
-unfolding vacancy, whole
+unfolding vacancy whole
 established = (refl, (refl, refl))
 
 some : abc ∷ [] ≢ []
@@ -72,18 +72,18 @@ keeps_opened : (t : Told) → Some opened ≡ Some t → KeepsModel t.trail
 keeps_opened t e = subst (λ (x : Told). KeepsModel x.trail) (same_told opened t e) (λ area. (tt, (tt, (tt, tt))))
 
 journal_rests : Rests (Some opened) (held [])
-journal_rests = open_rests (held []) [] (Some empty) (Some opened) finds refl
+journal_rests = open_rests JournalA (held []) [] (Some empty) (Some opened) finds refl
 
 vacant_stopped : VacantStops plan (Some opened) (Some set_up)
-unfolding vacancy, whole
+unfolding vacancy whole
 vacant_stopped = vacant_stops plan d_fits vacancy whole (Ok tt) keeps_set_up established
 
 vacant_rested : VacantRests plan (Some opened) (Some set_up)
-unfolding vacancy, whole
+unfolding vacancy whole
 vacant_rested = vacant_rests plan d_fits (Some opened) whole keeps_set_up established
 
 stopped : SetUpStops plan (Some empty) (Some set_up)
-unfolding old, vacancy, whole
+unfolding old vacancy whole
 stopped = opened_stops plan d_fits old vacancy whole (Ok tt) keeps_set_up is_vacant (mended_stops JournalA (held []) [] (Some empty) (Some opened) keeps_opened finds refl) journal_rests established
 
 over_there : SetUpStops plan (Some (uncalled closed)) (Some there)

@@ -3,10 +3,12 @@
 
 mod fault;
 mod hearing;
+mod laws;
 
 mod state;
 
 pub use fault::{LogFault, Misfit, Unheard};
 pub use hearing::hear;
+pub use laws::law_journals;
 
 pub use state::SessionState;

@@ -1,5 +1,5 @@
 -- A run that has no answer asked the ledger.
-use Rattle.std.proofs.Common.{◌≡◌, ℕ, zero, suc, ◌+◌, ◌≤◌, Bool, true, false, List, [], ◌∷◌, ◌++◌, length, Option, Some, None, refl, sym, ap, subst, arith, lit≤, nat_le, nat_lt, if◌then◌else◌, ◌∙◌}
+use Rattle.std.proofs.Common.{◌≡◌, ℕ, zero, suc, ◌+◌, ◌≤◌, Bool, true, false, List, [], ◌∷◌, ◌++◌, length, Option, Some, None, refl, sym, ap, subst, arith, lit≤, nat_le, nat_lt, if◌then◌else◌}
 use Rattle.std.specs.Prelude.{is_some, not, Result, Ok, Err}
 use Rattle.std.proofs.lemmas.Bool.{lt-leb, lt-ltb}
 use Rattle.satp_base.specs.Canonical.{kind_of, part_kind}

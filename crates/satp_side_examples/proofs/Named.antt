@@ -8,7 +8,7 @@ use Rattle.satp_sides.specs.Logs.{IsLog, MayCome}
 use Rattle.satp_sides.specs.Logs.MayCome.{Starts, Accepts, Takes, Makes, Notes}
 use Rattle.satp_sides.specs.Points.{Party, Stored, is_session, records_of, view_in}
 use Rattle.satp_sides.proofs.LogLaw.{log-all}
-use Rattle.satp_sides.proofs.Records.{is-session, records-apart, view-apart, view-first, view-here, view-none}
+use Rattle.satp_sides.proofs.Records.{is-session, records-apart, view-apart, view-first, view-here}
 use Rattle.satp_side_examples.specs.Tested.{LogsNameSessions}
 
 abbrev Unnamed : List Stored → Type 0

@@ -3,11 +3,11 @@
 //! The laws of this crate stand over definitions alone. They make no call: what each says is its contract.
 #![tactic(auto)]
 
-ghost use Rattle.satp_side_examples.specs.Answers.{Addresses, FirstMessages, MessagesAgain};
+ghost use Rattle.satp_side_examples.specs.Answers.{Addresses, FirstMessages, MessagesAgain, WholeAgain};
 ghost use Rattle.satp_side_examples.specs.Ends.{AbortsAsked, Beginnings, WorkAsked};
 ghost use Rattle.satp_side_examples.specs.Journals.{JournalsOfASession, RecordsCaseByCase, RecordsThatMayNotCome};
 ghost use Rattle.satp_side_examples.specs.Moving.{EntriesRead, MovesMade, TextsThatAreSaid, TextsThatCome};
-ghost use Rattle.satp_side_examples.specs.Recovery.{RoundsAnswered, RoundsStarted, SuccessesHeard, UpdatesHeard};
+ghost use Rattle.satp_side_examples.specs.Recovery.{LostMessages, RoundsAnswered, RoundsStarted, SuccessesHeard, UpdatesHeard};
 ghost use Rattle.satp_side_examples.specs.Tested.{LogsNameSessions, RunsAreAnswered};
 ghost use Rattle.satp_side_examples.specs.Work.{LocksAndBurns, Mints};
 
@@ -16,6 +16,7 @@ pub fn law_answers()
     ensures first { FirstMessages }
     ensures addresses { Addresses }
     ensures again { MessagesAgain }
+    ensures whole { WholeAgain }
 {}
 
 /// What is done after a message that is taken, for each answer of the ledger.
@@ -37,6 +38,7 @@ pub fn law_recovery()
     ensures answered { RoundsAnswered }
     ensures heard { UpdatesHeard }
     ensures ended { SuccessesHeard }
+    ensures lost { LostMessages }
 {}
 
 /// Which records may be stored: case by case, near misses, and the journals of a whole session.

@@ -8,7 +8,7 @@ use Rattle.satp_base.specs.declared.ledger.Answer.TheVariants.{Done}
 use Rattle.satp_base.specs.declared.ledger.LedgerOp.TheVariants.{Assign}
 use Rattle.satp_base.specs.declared.message.Body.{Body}
 use Rattle.satp_base.specs.declared.message.Body.TheVariants as body
-use Rattle.satp_base.specs.declared.message.Kind.TheVariants.{ProposalReceipt, TransferCommence, CommenceAck, LockAssert, CommitPrepare, CommitReady, CommitFinal, CommitFinalAck, TransferComplete, Rollback}
+use Rattle.satp_base.specs.declared.message.Kind.TheVariants.{ProposalReceipt, TransferCommence, CommenceAck, LockAssert, CommitPrepare, CommitReady, CommitFinal, CommitFinalAck, TransferComplete, Rollback, RollbackAck}
 use Rattle.satp_base.specs.declared.message.Link.{Link}
 use Rattle.satp_base.specs.declared.message.Message.{Message}
 use Rattle.satp_base.specs.declared.message.Part.TheVariants.{Proposal, Plain}
@@ -72,6 +72,9 @@ pub record Addresses : Type 0 where
 abbrev pub ack : List ℕ → (ℕ → Text) → Text
 ack key text = next_text alpha_1 beta key (text 1 ∷ text 2 ∷ text 3 ∷ text 4 ∷ text 5 ∷ text 6 ∷ text 7 ∷ text 8 ∷ text 9 ∷ []) (Plain CommitFinalAck)
 
+abbrev pub complete : List ℕ → (ℕ → Text) → Text
+complete key text = next_text alpha_1 beta key (text 1 ∷ text 2 ∷ text 3 ∷ text 4 ∷ text 5 ∷ text 6 ∷ text 7 ∷ text 8 ∷ text 9 ∷ text 10 ∷ []) (Plain TransferComplete)
+
 -- A message that stands in the chain already: it is answered as the first time, and nothing is done twice.
 pub record MessagesAgain : Type 0 where
   -- the first time
@@ -133,3 +136,18 @@ pub record MessagesAgain : Type 0 where
   pub rolled_back :
       (key : List ℕ) (book : Book) (terms : Terms) (text : ℕ → Text) (previous : Link) (t : Text)
       → alpha_hears key (refused_at_alpha terms text) book (chain_message 4 previous (Plain CommenceAck)) t ≡ replied (Some (text 5))
+
+-- A message that comes again after a stop, where its work makes the chain whole: the last text is said.
+pub record WholeAgain : Type 0 where
+  pub committed :
+      (key : List ℕ) (book : Book) (terms : Terms) (text : ℕ → Text) (previous : Link)
+      → alpha_hears key (take 13 (alpha_records terms text)) book (chain_message 10 previous (Plain CommitFinalAck)) (text 10)
+      ≡ record { answer = Some (Ok (Some (complete key text))); moves = Appends (stored alpha_1 (Made TransferComplete) (complete key text)) ∷ Says (complete key text) ∷ [] }
+  -- and after it nothing is done
+  pub committed_then :
+      (key : List ℕ) (book : Book) (terms : Terms) (text : ℕ → Text) (previous : Link)
+      → alpha_hears key (alpha_records terms text) book (chain_message 10 previous (Plain CommitFinalAck)) (text 10) ≡ replied (Some (text 11))
+  -- the last message of a chain that was rolled back is the peer's, and isn't answered
+  pub rolled_back :
+      (key : List ℕ) (book : Book) (terms : Terms) (text : ℕ → Text) (previous : Link)
+      → alpha_hears key (refused_at_alpha terms text) book (chain_message 6 previous (Plain RollbackAck)) (text 6) ≡ replied None

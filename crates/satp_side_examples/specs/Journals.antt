@@ -7,9 +7,11 @@ use Rattle.satp_base.specs.Roles.{RoleRule}
 use Rattle.satp_base.specs.declared.ledger.LedgerOp.{LedgerOp}
 use Rattle.satp_base.specs.declared.ledger.LedgerOp.TheVariants.{Lock}
 use Rattle.satp_base.specs.declared.message.Kind.{Kind}
-use Rattle.satp_base.specs.declared.message.Kind.TheVariants.{ProposalReceipt, TransferCommence, CommenceAck, LockAssert, LockReceipt, CommitPrepare, CommitReady, CommitFinal, CommitFinalAck, TransferComplete}
+use Rattle.satp_base.specs.declared.message.Kind.TheVariants.{ProposalReceipt, TransferCommence, CommenceAck, LockAssert, LockReceipt, CommitPrepare, CommitReady, CommitFinal, CommitFinalAck, TransferComplete, Rollback, RollbackAck}
 use Rattle.satp_base.specs.declared.message.Part.{Part}
 use Rattle.satp_base.specs.declared.message.Part.TheVariants.{Plain, Proposal}
+use Rattle.satp_base.specs.declared.message.Part.TheVariants as part
+use Rattle.satp_base.specs.declared.message.Reason.{Reason}
 use Rattle.satp_base.specs.declared.message.Role.{Role}
 use Rattle.satp_base.specs.declared.message.Role.TheVariants.{Origin, Recipient}
 use Rattle.satp_base.specs.declared.message.Terms.{Terms}
@@ -20,7 +22,7 @@ use Rattle.satp_base.specs.declared.view.View.{View}
 use Rattle.satp_sides.specs.LogLaws.{IsOfRole}
 use Rattle.satp_sides.specs.Logs.{IsLog, MayCome}
 use Rattle.satp_sides.specs.Points.{Party, Stored, Text, begun, chain_in, recipient_at, records_of, stored, view_in}
-use Rattle.satp_side_examples.specs.Samples.{alpha_1, alpha_9, alpha_records, at_alpha, at_beta, beta, beta_records, gamma_1, note}
+use Rattle.satp_side_examples.specs.Samples.{alpha_1, alpha_9, alpha_records, at_alpha, at_beta, beta, beta_records, capped_at_beta, gamma_1, note, refused_at_alpha}
 
 -- ---- case by case
 
@@ -95,6 +97,25 @@ at_place (t ∷ ts) (suc (suc n)) = at_place ts (suc n)
 abbrev pub whole_text : List ℕ → Terms → ℕ → Text
 whole_text key terms n = at_place (whole_chain key terms) n
 
+-- of one that the lock's refusal ended
+abbrev pub refused_text : List ℕ → Terms → ℕ → Text
+refused_text key terms n =
+    at_place (more key RollbackAck (more key Rollback (more key CommenceAck (more key TransferCommence (more key ProposalReceipt (next_text alpha_1 beta key [] (Proposal terms) ∷ [])))))) n
+
+-- and of one that was rejected with a reason
+abbrev prepared_chain : List ℕ → Terms → List Text
+prepared_chain key terms =
+    more key CommitPrepare (more key LockReceipt (more key LockAssert (
+    more key CommenceAck (more key TransferCommence (more key ProposalReceipt (next_text alpha_1 beta key [] (Proposal terms) ∷ []))))))
+
+abbrev pub rejected_text : List ℕ → Terms → Reason → ℕ → Text
+rejected_text key terms reason n =
+    let prepared = prepared_chain key terms in
+    at_place (more key RollbackAck (more key Rollback (prepared ++ next_text alpha_1 beta key prepared (part.Reject reason) ∷ []))) n
+
 pub record JournalsOfASession : Type 0 where
   pub of_beta : (key : List ℕ) (terms : Terms) → IsLog (at_beta key) (beta_records terms (whole_text key terms))
   pub of_alpha : (key : List ℕ) (terms : Terms) → IsLog (at_alpha key) (alpha_records terms (whole_text key terms))
+  pub of_a_refused_lock : (key : List ℕ) (terms : Terms) → IsLog (at_alpha key) (refused_at_alpha terms (refused_text key terms))
+  -- the reason that a reject names isn't compared with the cause that was stored
+  pub of_a_refused_mint : (key : List ℕ) (terms : Terms) (reason : Reason) → IsLog (at_beta key) (capped_at_beta terms (rejected_text key terms reason))

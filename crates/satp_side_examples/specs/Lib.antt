@@ -5,3 +5,4 @@ pub mod Ends
 pub mod Recovery
 pub mod Journals
 pub mod Moving
+pub mod Tested

@@ -5,17 +5,17 @@ use Rattle.satp_base.specs.Chains.{link_of, zero_link}
 use Rattle.satp_base.specs.Money.{Book}
 use Rattle.satp_base.specs.Signatures.{own}
 use Rattle.satp_base.specs.declared.ledger.Answer.TheVariants as answer
-use Rattle.satp_base.specs.declared.ledger.LedgerOp.TheVariants.{Mint, Release}
+use Rattle.satp_base.specs.declared.ledger.LedgerOp.TheVariants.{Burn, Mint, Release}
 use Rattle.satp_base.specs.declared.message.Body.TheVariants.{Recover, Update, Success}
-use Rattle.satp_base.specs.declared.message.Kind.TheVariants.{ProposalReceipt, CommitPrepare, CommitReady, Rollback}
+use Rattle.satp_base.specs.declared.message.Kind.TheVariants.{ProposalReceipt, CommitPrepare, CommitReady, CommitFinal, Rollback}
 use Rattle.satp_base.specs.declared.message.Link.{Link}
 use Rattle.satp_base.specs.declared.message.Message.{Message}
 use Rattle.satp_base.specs.declared.message.Part.TheVariants.{Plain, Proposal}
 use Rattle.satp_base.specs.declared.message.Role.TheVariants.{Recipient}
 use Rattle.satp_base.specs.declared.message.Terms.{Terms}
-use Rattle.satp_base.specs.declared.record.Cause.TheVariants.{Aborted}
+use Rattle.satp_base.specs.declared.record.Cause.TheVariants.{Aborted, Rescued}
 use Rattle.satp_base.specs.declared.record.Rec.TheVariants.{Began, Made, Took, Did, Chose, Rescue}
-use Rattle.satp_base.specs.declared.record.Way.TheVariants.{Back}
+use Rattle.satp_base.specs.declared.record.Way.TheVariants.{Commit, Back}
 use Rattle.satp_recovery.specs.declared.choice.RecoveryFault.TheVariants.{Longer, Shorter, OtherHash, EntryRefused}
 use Rattle.satp_sides.specs.Calls.{Run, Hears, Rescues, Full, Recovery, refused, replied, run_of}
 use Rattle.satp_sides.specs.Points.{Appends, Acts, Says, Stored, Text, begun, chain_in, slot_in, stored}
@@ -204,3 +204,36 @@ pub record SuccessesHeard : Type 0 where
   pub without_work :
       (key : List ℕ) (book : Book) (terms : Terms) (text : ℕ → Text) (t : Text)
       → beta_hears key (take 7 (beta_records terms text)) book (from_alpha alpha_1 (Success 7 (link_of (text 7)))) t ≡ replied None
+
+-- ---- what was lost
+
+pub record LostMessages : Type 0 where
+  -- the proposal: it is said again
+  pub proposal :
+      (key : List ℕ) (book : Book) (terms : Terms) (text : ℕ → Text) (t : Text)
+      → told key (take 1 (alpha_records terms text) ++ note Rescue ∷ []) book 0 [] None t ≡ replied (Some (text 1))
+  -- an undecided origin in a round turns back at the next message
+  pub receipt_in_a_round :
+      (key : List ℕ) (book : Book) (terms : Terms) (text : ℕ → Text) → Answers book Release terms answer.Done
+      → alpha_hears key (take 1 (alpha_records terms text) ++ note Rescue ∷ []) book (chain_message 2 (link_of (text 1)) (Plain ProposalReceipt)) (text 2)
+      ≡ run_to (made_after key text 2 (Plain Rollback)) (
+      Appends (stored alpha_1 (Took ProposalReceipt) (text 2)) ∷ Appends (note (Chose (Back Rescued))) ∷ Acts alpha_1 Release terms ∷ Appends (note (Did Release))
+      ∷ makes Rollback (made_after key text 2 (Plain Rollback)))
+  -- but where its peer is ready it commits
+  pub ready_in_a_round :
+      (key : List ℕ) (book : Book) (terms : Terms) (text : ℕ → Text) → Answers book Burn terms answer.Done
+      → alpha_hears key (prepared terms text ++ note Rescue ∷ []) book (ready text) (text 8)
+      ≡ run_to (made_after key text 8 (Plain CommitFinal)) (
+      Appends (stored alpha_1 (Took CommitReady) (text 8)) ∷ Appends (note (Chose Commit)) ∷ Acts alpha_1 Burn terms ∷ Appends (note (Did Burn))
+      ∷ makes CommitFinal (made_after key text 8 (Plain CommitFinal)))
+  pub not_rescued :
+      (key : List ℕ) (book : Book) (terms : Terms) (text : ℕ → Text) (t : Text) → Answers book Burn terms answer.Done
+      → ¬ alpha_hears key (prepared terms text ++ note Rescue ∷ []) book (ready text) (text 8)
+      ≡ run_to t (Appends (stored alpha_1 (Took CommitReady) (text 8)) ∷ Appends (note (Chose (Back Rescued))) ∷ makes Rollback t)
+  -- that a burn was done: it is asked for again, and a decided origin isn't rescued
+  pub burn :
+      (key : List ℕ) (book : Book) (terms : Terms) (text : ℕ → Text) (t : Text) → Answers book Burn terms answer.Done
+      → alpha_hears key (take 10 (alpha_records terms text)) book (from_beta alpha_1 (Recover 8 (link_of (text 8)))) t
+      ≡ run_to (own key (from_alpha alpha_1 (Update 9 (made_after key text 8 (Plain CommitFinal) ∷ [])))) (
+      Acts alpha_1 Burn terms ∷ Appends (note (Did Burn)) ∷ Appends (stored alpha_1 (Made CommitFinal) (made_after key text 8 (Plain CommitFinal)))
+      ∷ Says (own key (from_alpha alpha_1 (Update 9 (made_after key text 8 (Plain CommitFinal) ∷ [])))) ∷ [])

@@ -6,14 +6,14 @@ use Rattle.satp_base.specs.Money.{Book}
 use Rattle.satp_base.specs.Names.{holds_name}
 use Rattle.satp_base.specs.declared.ledger.LedgerOp.TheVariants.{Lock, Burn, Mint, Assign, Release}
 use Rattle.satp_base.specs.declared.message.Body.{Body}
-use Rattle.satp_base.specs.declared.message.Kind.TheVariants.{ProposalReceipt, TransferCommence, CommenceAck, LockAssert, LockReceipt, CommitPrepare, CommitReady, CommitFinal, CommitFinalAck, TransferComplete, Rollback, RollbackAck}
+use Rattle.satp_base.specs.declared.message.Kind.TheVariants.{ProposalReceipt, TransferCommence, CommenceAck, LockAssert, LockReceipt, CommitPrepare, CommitReady, CommitFinal, CommitFinalAck, TransferComplete, Reject, Rollback, RollbackAck}
 use Rattle.satp_base.specs.declared.message.Link.{Link}
 use Rattle.satp_base.specs.declared.message.Message.{Message}
 use Rattle.satp_base.specs.declared.message.Part.{Part}
 use Rattle.satp_base.specs.declared.message.Role.TheVariants.{Origin, Recipient}
 use Rattle.satp_base.specs.declared.message.Terms.{Terms}
 use Rattle.satp_base.specs.declared.name.Name.{Name}
-use Rattle.satp_base.specs.declared.record.Cause.TheVariants.{LockRefused}
+use Rattle.satp_base.specs.declared.record.Cause.TheVariants.{LockRefused, MintCapped}
 use Rattle.satp_base.specs.declared.record.Rec.{Rec}
 use Rattle.satp_base.specs.declared.record.Rec.TheVariants.{Began, Took, Made, Did, Chose}
 use Rattle.satp_base.specs.declared.record.Way.TheVariants.{Commit, Back}
@@ -121,4 +121,20 @@ refused_at_alpha terms text =
     ∷ note (Did Release)
     ∷ stored alpha_1 (Made Rollback) (text 5)
     ∷ stored alpha_1 (Took RollbackAck) (text 6)
+    ∷ []
+
+-- beta's records of a session whose mint its ledger refused
+abbrev pub capped_at_beta : Terms → (ℕ → Text) → List Stored
+capped_at_beta terms text =
+    stored alpha_1 (Began Recipient terms) (text 1)
+    ∷ stored alpha_1 (Made ProposalReceipt) (text 2)
+    ∷ stored alpha_1 (Took TransferCommence) (text 3)
+    ∷ stored alpha_1 (Made CommenceAck) (text 4)
+    ∷ stored alpha_1 (Took LockAssert) (text 5)
+    ∷ stored alpha_1 (Made LockReceipt) (text 6)
+    ∷ stored alpha_1 (Took CommitPrepare) (text 7)
+    ∷ note (Chose (Back MintCapped))
+    ∷ stored alpha_1 (Made Reject) (text 8)
+    ∷ stored alpha_1 (Took Rollback) (text 9)
+    ∷ stored alpha_1 (Made RollbackAck) (text 10)
     ∷ []

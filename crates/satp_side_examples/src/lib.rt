@@ -3,11 +3,12 @@
 //! The laws of this crate stand over definitions alone. They make no call: what each says is its contract.
 #![tactic(auto)]
 
-ghost use Rattle.satp_side_examples.specs.Answers.{Addresses, FirstMessages, MessagesAgain};
+ghost use Rattle.satp_side_examples.specs.Answers.{Addresses, FirstMessages, MessagesAgain, WholeAgain};
 ghost use Rattle.satp_side_examples.specs.Ends.{AbortsAsked, Beginnings, WorkAsked};
 ghost use Rattle.satp_side_examples.specs.Journals.{JournalsOfASession, RecordsCaseByCase, RecordsThatMayNotCome};
 ghost use Rattle.satp_side_examples.specs.Moving.{EntriesRead, MovesMade, TextsThatAreSaid, TextsThatCome};
-ghost use Rattle.satp_side_examples.specs.Recovery.{RoundsAnswered, RoundsStarted, SuccessesHeard, UpdatesHeard};
+ghost use Rattle.satp_side_examples.specs.Recovery.{LostMessages, RoundsAnswered, RoundsStarted, SuccessesHeard, UpdatesHeard};
+ghost use Rattle.satp_side_examples.specs.Tested.{LogsNameSessions, RunsAreAnswered};
 ghost use Rattle.satp_side_examples.specs.Work.{LocksAndBurns, Mints};
 
 /// Messages of a chain: the first ones of a session, who may say what to whom, and one that comes again.
@@ -15,6 +16,7 @@ pub fn law_answers()
     ensures first { FirstMessages }
     ensures addresses { Addresses }
     ensures again { MessagesAgain }
+    ensures whole { WholeAgain }
 {}
 
 /// What is done after a message that is taken, for each answer of the ledger.
@@ -36,6 +38,7 @@ pub fn law_recovery()
     ensures answered { RoundsAnswered }
     ensures heard { UpdatesHeard }
     ensures ended { SuccessesHeard }
+    ensures lost { LostMessages }
 {}
 
 /// Which records may be stored: case by case, near misses, and the journals of a whole session.
@@ -51,4 +54,10 @@ pub fn law_moving()
     ensures entries { EntriesRead }
     ensures said { TextsThatAreSaid }
     ensures moves { MovesMade }
+{}
+
+/// A session that isn't named has no record, and a call that no test refuses is answered or asks the ledger.
+pub fn law_tested()
+    ensures named { LogsNameSessions }
+    ensures answered { RunsAreAnswered }
 {}

@@ -48,3 +48,11 @@ returns-clause-again c = record {
   at_the_origin = λ key book terms text previous t. refl;
   rolled_back = λ key book terms text previous t. refl;
 }
+
+pub returns-clause-whole : goal.returns-clause-whole
+unfolding run_of refusal_of due extends
+returns-clause-whole c = record {
+  committed = λ key book terms text previous. rw same_bytes;
+  committed_then = λ key book terms text previous. rw same_bytes;
+  rolled_back = λ key book terms text previous. rw same_bytes;
+}

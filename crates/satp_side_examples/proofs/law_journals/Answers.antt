@@ -8,7 +8,7 @@ use Rattle.satp_base.proofs.RecordLaws.{allowed-rescue}
 use Rattle.satp_sides.specs.Points.{view_in}
 use Rattle.satp_side_examples.specs.Samples.{alpha, alpha_1, alpha_records, beta, gamma}
 use Rattle.satp_side_examples.proofs.MayCome.{by-record, case-by-case}
-use Rattle.satp_side_examples.proofs.Whole.{of-alpha, of-beta}
+use Rattle.satp_side_examples.proofs.Whole.{of-alpha, of-beta, of-lock, of-mint}
 use Rattle.satp_side_examples.proofs.law_journals.Goals as goal
 
 -- names that differ in their first byte
@@ -40,4 +40,4 @@ returns-clause-refused c = record {
 }
 
 pub returns-clause-whole : goal.returns-clause-whole
-returns-clause-whole c = record { of_beta = of-beta; of_alpha = of-alpha }
+returns-clause-whole c = record { of_beta = of-beta; of_alpha = of-alpha; of_a_refused_lock = of-lock; of_a_refused_mint = of-mint }

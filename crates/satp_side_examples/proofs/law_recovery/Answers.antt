@@ -1,6 +1,6 @@
-use Rattle.std.proofs.Common.{refl}
+use Rattle.std.proofs.Common.{◌≡◌, refl, ap, length, arith}
 use Rattle.satp_base.specs.Verdicts.{extends}
-use Rattle.satp_sides.specs.Calls.{refusal_of, run_of}
+use Rattle.satp_sides.specs.Calls.{Run, refusal_of, run_of}
 use Rattle.satp_sides.specs.Due.{due}
 use Rattle.satp_side_examples.proofs.Bytes.{same_bytes}
 use Rattle.satp_side_examples.proofs.law_recovery.Goals as goal
@@ -67,4 +67,14 @@ returns-clause-ended c = record {
   not_another_chain = λ key book terms text last t e. rw e;
   not_unnamed = λ key book last t. refl;
   without_work = λ key book terms text t. rw same_bytes;
+}
+
+pub returns-clause-lost : goal.returns-clause-lost
+unfolding run_of refusal_of due extends
+returns-clause-lost c = record {
+  proposal = λ key book terms text t. refl;
+  receipt_in_a_round = λ key book terms text e. rw (same_bytes, e);
+  ready_in_a_round = λ key book terms text e. rw (same_bytes, e);
+  not_rescued = λ key book terms text t e h. let bad : 6 ≡ 4 = ap (λ (r : Run). length r.moves) (rw (same_bytes, e) at h) in absurd (omega (arith, bad));
+  burn = λ key book terms text t e. rw (same_bytes, e);
 }

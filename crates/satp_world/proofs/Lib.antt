@@ -38,3 +38,4 @@ pub mod RestTable
 pub mod RestCheck
 pub mod Replies
 pub mod RunLaw
+pub mod HearLaw

@@ -39,3 +39,4 @@ pub mod RestCheck
 pub mod Replies
 pub mod RunLaw
 pub mod HearLaw
+pub mod RunHear

@@ -1,5 +1,6 @@
 -- Due work of a session that a log names: its moves are moves, as long as each operation is answered.
-use Rattle.std.proofs.Common.{◌≡◌, ℕ, zero, suc, ◌≤◌, Bool, true, false, List, [], ◌∷◌, ◌++◌, Option, Some, None, refl, sym, ap, subst, ◌∙◌}
+use Rattle.std.proofs.Common.{◌≡◌, ℕ, zero, suc, ◌≤◌, Bool, true, false, ◌+◌, List, [], ◌∷◌, ◌++◌, length, Option, Some, None, refl, sym, ap, subst, ◌∙◌, arith}
+use Rattle.std.proofs.lemmas.List.{append-nil, length_push}
 use Rattle.satp_base.specs.Canonical.{part_kind}
 use Rattle.satp_base.specs.Chains.{made_part, next_text}
 use Rattle.satp_base.specs.Forms.{IsPart, is_plain}
@@ -35,6 +36,7 @@ use Rattle.satp_sides.specs.Logs.MayCome.{Makes, Notes}
 use Rattle.satp_sides.specs.Moves.{AreMoves, ArrivesAs, IsMove, LedgerFits, said_by}
 use Rattle.satp_sides.specs.Points.{Move, Party, Side, Slot, Stored, Text, chain_in, moved, moved_by, noted, recipient_at, stored, texts_in_record, view_in}
 use Rattle.satp_sides.specs.Points.Move.{Appends, Acts, Says}
+use Rattle.satp_sides.proofs.DueLaw.{made-rests, still}
 use Rattle.satp_sides.proofs.LogLaw.{log-grows}
 use Rattle.satp_sides.proofs.Making.{arrives-none}
 use Rattle.satp_sides.proofs.Records.{chain-here, session-self, view-here}
@@ -50,7 +52,7 @@ view-is : (v w : View) → Some v ≡ Some w → v ≡ w
 view-is v w e = cc e
 
 -- one record more that may come
-slot-more : (p : Party) (s : SessionId) (side : Side) (l : Slot) (r : Rec) (t : Text) → SlotAt p s side l → MayCome p side.records (stored s r t) → SlotAt p s (moved side (Appends (stored s r t))) (noted l s r t)
+pub slot-more : (p : Party) (s : SessionId) (side : Side) (l : Slot) (r : Rec) (t : Text) → SlotAt p s side l → MayCome p side.records (stored s r t) → SlotAt p s (moved side (Appends (stored s r t))) (noted l s r t)
 slot-more p s side l r t k may = record {
   log = (log-grows p).more side.records (stored s r t) k.log may;
   named = view-here s side.records (stored s r t) l.view (session-self s) k.named;
@@ -207,3 +209,51 @@ module _ (n : ℕ) (p : Party) (s : SessionId) (h : Goes n p s) where
 pub work-goes : (n : ℕ) (p : Party) (s : SessionId) → Goes n p s
 work-goes zero p s side bag l at order = record { moves = tt; slot = at; silent = refl }
 work-goes (suc n) p s side bag l at order = next-goes n p s (work-goes n p s) side bag l (next_of l.view.role l.view) at refl order
+
+-- ---- at most one message
+
+note-texts : (s : SessionId) (r : Rec) (t : Text) → IsNote r → texts_in_record (stored s r t) ≡ []
+note-texts s (Began role terms) t n = absurd n
+note-texts s (Took k) t n = absurd n
+note-texts s (Made k) t n = absurd n
+note-texts s (Did op) t n = refl
+note-texts s (Chose way) t n = refl
+note-texts s Rescue t n = refl
+
+pub note-long : (s : SessionId) (l : Slot) (r : Rec) (t : Text) → IsNote r → length (noted l s r t).texts ≡ length l.texts
+note-long s l r t n = ap (λ ts. length (l.texts ++ ts)) (note-texts s r t n) ∙ ap length (append-nil l.texts)
+
+abbrev OneMore : ℕ → Party → SessionId → Type 0
+OneMore n p s = (l : Slot) (b : Book) → length (due_within n p s l b).slot.texts ≤ length l.texts + 1
+
+module _ (n : ℕ) (p : Party) (s : SessionId) (h : OneMore n p s) where
+  noted-more : (l : Slot) (b : Book) (r : Rec) (t : Text) → IsNote r → length (due_within n p s (noted l s r t) b).slot.texts ≤ length l.texts + 1
+  noted-more l b r t i = let x = h (noted l s r t) b in let y = note-long s l r t i in omega (arith, x, y)
+
+  answered-more : (l : Slot) (b : Book) (op : LedgerOp) (o : Option Answer) → length (due_answered (due_within n p s) s l b op o).slot.texts ≤ length l.texts + 1
+  answered-more l b op None = omega arith
+  answered-more l b op (Some a) = noted-more l (operation b op s l.view.terms).after (after_of op a) [] (after-note op a)
+
+  append-more : (l : Slot) (b : Book) (r : Rec) → next_of l.view.role l.view ≡ Append r → due_rec r ≡ true → length (due_within n p s (noted l s r (due_text p s l r)) b).slot.texts ≤ length l.texts + 1
+  append-more l b (Made k) e d =
+      let t = due_text p s l (Made k) in
+      let rest = still n p s (noted l s (Made k) t) b (made-rests l.view.role l.view k e) in
+      let same = ap (λ (w : Work). length w.slot.texts) rest in
+      let long = length_push l.texts t in
+      omega (arith, same, long)
+  append-more l b (Chose way) e d = noted-more l b (Chose way) [] tt
+  append-more l b (Began role terms) e d = absurd (cc d)
+  append-more l b (Took k) e d = absurd (cc d)
+  append-more l b (Did op) e d = absurd (cc d)
+  append-more l b Rescue e d = absurd (cc d)
+
+  next-more : (l : Slot) (b : Book) (next : Next) → next_of l.view.role l.view ≡ next → length (due_by (due_within n p s) p s l b next).slot.texts ≤ length l.texts + 1
+  next-more l b (Append r) e = append-more l b r e (is-due l.view.role l.view r e)
+  next-more l b (Act op) e = answered-more l b op (operation b op s l.view.terms).answer
+  next-more l b Wait e = omega arith
+  next-more l b Ended e = omega arith
+
+-- due work makes at most one message
+pub one-more : (n : ℕ) (p : Party) (s : SessionId) → OneMore n p s
+one-more zero p s l b = omega arith
+one-more (suc n) p s l b = next-more n p s (one-more n p s) l b (next_of l.view.role l.view) refl

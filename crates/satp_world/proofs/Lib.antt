@@ -38,3 +38,5 @@ pub mod RestTable
 pub mod RestCheck
 pub mod Replies
 pub mod RunLaw
+pub mod HearLaw
+pub mod RunHear

@@ -52,7 +52,7 @@ use Rattle.satp_sides.proofs.Records.{chain-here, chain-none, is-session, record
 use Rattle.satp_world.specs.Work.{OperatorsRunsMove, RunGoes}
 use Rattle.satp_world.specs.Worlds.{Gateway, Reached, Setting, World, name_at, opposite, party_at, session_in, side_at}
 use Rattle.satp_world.specs.Worlds.Gateway.{A, B}
-use Rattle.satp_world.proofs.DueMoves.{SlotAt, WorkGoes, note-stores, work-goes}
+use Rattle.satp_world.proofs.DueMoves.{SlotAt, WorkGoes, note-long, note-stores, one-more, work-goes}
 use Rattle.satp_world.proofs.KeptLaw.{logs-kept}
 use Rattle.satp_world.proofs.Replies.{last-says, origin-own, recipient-own, recover-says}
 use Rattle.satp_world.proofs.WorkLaw.{IsSideOf, moved-on, ordered, origin-side, recipient-side, slot-parts}
@@ -90,11 +90,11 @@ moved-all st a b g side bag (Acts s op terms ∷ ms) k h = moved-all st a b g (m
 moved-all st a b g side bag (Says t ∷ ms) k h = moved-all st a b g side (t ∷ bag) ms (moved-on st a b g side bag side (t ∷ bag) k (Moves (Says t) h.0)) h.1
 
 -- the invariant of the side
-data Stands (v : View) : Type 0 where
+pub data Stands (v : View) : Type 0 where
   As_origin : v.role ≡ Origin → (e : _) → OriginStands (half v e) → Stands v
   As_recipient : v.role ≡ Recipient → (e : _) → RecipientStands (half v e) → Stands v
 
-stands-in : (st : Setting) (a b : Founding) (w : World) → Reached st a b w → (g : Gateway) (s : SessionId) (v : View) → view_in s (side_at w g).records ≡ Some v → Stands v
+pub stands-in : (st : Setting) (a b : Founding) (w : World) → Reached st a b w → (g : Gateway) (s : SessionId) (v : View) → view_in s (side_at w g).records ≡ Some v → Stands v
 stands-in st a b w r g s v e = by-name g ((law_safety st a b w r).named g s v e) e
   where
     by-name : (g : Gateway) → (s.gateway ≡ name_at st g) ⊎ (s.gateway ≡ name_at st (opposite g)) → view_in s (side_at w g).records ≡ Some v → Stands v
@@ -163,9 +163,9 @@ module _ (st : Setting) (a b : Founding) (g : Gateway) where
   me = party_at st g
 
   -- a reply is a text that may be said, wherever due work has ended
-  abbrev Replies : SessionId → List Text → (Slot → Option Text) → Type 0
-  Replies s bag reply =
-      (side : Side) (l : Slot) → IsSideOf st a b g side bag → SlotAt (party_at st g) s side l → Rests (next_of l.view.role l.view) → (t : Text) → reply l ≡ Some t → Sayable (party_at st g) side.records bag t
+  abbrev pub Replies : SessionId → List Text → ℕ → (Slot → Option Text) → Type 0
+  Replies s bag most reply =
+      (side : Side) (l : Slot) → IsSideOf st a b g side bag → SlotAt (party_at st g) s side l → Rests (next_of l.view.role l.view) → length l.texts ≤ most → (t : Text) → reply l ≡ Some t → Sayable (party_at st g) side.records bag t
 
   -- what due work and the reply come to
   record Done (s : SessionId) (side : Side) (bag : List Text) (l : Slot) (reply : Slot → Option Text) : Type 0 where
@@ -176,7 +176,7 @@ module _ (st : Setting) (a b : Founding) (g : Gateway) where
   says-go side bag None h = tt
   says-go side bag (Some t) h = (h t refl, tt)
 
-  work-done : (s : SessionId) (side : Side) (bag : List Text) (l : Slot) (reply : Slot → Option Text) → IsSideOf st a b g side bag → SlotAt (party_at st g) s side l → Replies s bag reply → Done s side bag l reply
+  work-done : (s : SessionId) (side : Side) (bag : List Text) (l : Slot) (reply : Slot → Option Text) → IsSideOf st a b g side bag → SlotAt (party_at st g) s side l → Replies s bag (length l.texts + 1) reply → Done s side bag l reply
   unfolding due
   work-done s side bag l reply k at ok =
       let p = party_at st g in
@@ -184,7 +184,7 @@ module _ (st : Setting) (a b : Founding) (g : Gateway) where
       let order = ordered st a b g s 3 side bag l k at in
       let goes = work-goes 3 p s side bag l at order in
       let after = subst (IsSideOf st a b g (moved_by side d.moves)) goes.silent (moved-all st a b g side bag d.moves k goes.moves) in
-      let said = says-go (moved_by side d.moves) bag (reply d.slot) (ok (moved_by side d.moves) d.slot after goes.slot (due-rests p s l side.book order)) in
+      let said = says-go (moved_by side d.moves) bag (reply d.slot) (ok (moved_by side d.moves) d.slot after goes.slot (due-rests p s l side.book order) (one-more 3 p s l side.book)) in
       record {
         order = order;
         moves = (moves-go p side bag).both d.moves (says (reply d.slot)) goes.moves (subst (λ more. AreMoves p (moved_by side d.moves) more (says (reply d.slot))) (sym goes.silent) said);
@@ -194,41 +194,41 @@ module _ (st : Setting) (a b : Founding) (g : Gateway) where
   run-ended side bag true d first reply e h = record { moves = h; answered = λ x. cc x }
   run-ended side bag false d first reply e h = absurd (cc e)
 
-  runs-none : (s : SessionId) (side : Side) (bag : List Text) (l : Slot) (reply : Slot → Option Text) → IsSideOf st a b g side bag → SlotAt (party_at st g) s side l → Replies s bag reply → RunGoes (party_at st g) side bag (runs (party_at st g) side s l [] reply)
+  pub runs-none : (s : SessionId) (side : Side) (bag : List Text) (l : Slot) (reply : Slot → Option Text) → IsSideOf st a b g side bag → SlotAt (party_at st g) s side l → Replies s bag (length l.texts + 1) reply → RunGoes (party_at st g) side bag (runs (party_at st g) side s l [] reply)
   runs-none s side bag l reply k at ok =
       let done = work-done s side bag l reply k at ok in
       run-ended side bag _ (due (party_at st g) s l side.book) [] (reply (due (party_at st g) s l side.book).slot) done.order done.moves
 
-  runs-one : (s : SessionId) (side : Side) (bag : List Text) (x : Stored) (l : Slot) (reply : Slot → Option Text) → IsSideOf st a b g side bag → IsMove (party_at st g) side bag (Appends x) → SlotAt (party_at st g) s (moved side (Appends x)) l → Replies s bag reply
+  pub runs-one : (s : SessionId) (side : Side) (bag : List Text) (x : Stored) (l : Slot) (reply : Slot → Option Text) → IsSideOf st a b g side bag → IsMove (party_at st g) side bag (Appends x) → SlotAt (party_at st g) s (moved side (Appends x)) l → Replies s bag (length l.texts + 1) reply
       → RunGoes (party_at st g) side bag (runs (party_at st g) side s l (Appends x ∷ []) reply)
   runs-one s side bag x l reply k move at ok =
       let next = moved-on st a b g side bag (moved side (Appends x)) bag k (Moves (Appends x) move) in
       let done = work-done s (moved side (Appends x)) bag l reply next at ok in
       run-ended side bag _ (due (party_at st g) s l side.book) (Appends x ∷ []) (reply (due (party_at st g) s l side.book).slot) done.order (move, done.moves)
 
-  refused-goes : (side : Side) (bag : List Text) (r : Refusal) → RunGoes (party_at st g) side bag (refused r)
+  pub refused-goes : (side : Side) (bag : List Text) (r : Refusal) → RunGoes (party_at st g) side bag (refused r)
   refused-goes side bag r = record { moves = tt; answered = λ x. cc x }
 
   -- a first record without a message, if there is one
-  note-goes : (s : SessionId) (side : Side) (bag : List Text) (l : Slot) (r : Rec) (reply : Slot → Option Text) → IsSideOf st a b g side bag → SlotAt (party_at st g) s side l → RoleRule l.view.role l.view r → IsNote r → LedgerFits side.book s l.view.terms r → Replies s bag reply
+  pub note-goes : (s : SessionId) (side : Side) (bag : List Text) (l : Slot) (r : Rec) (reply : Slot → Option Text) → IsSideOf st a b g side bag → SlotAt (party_at st g) s side l → RoleRule l.view.role l.view r → IsNote r → LedgerFits side.book s l.view.terms r → Replies s bag (length l.texts + 1) reply
       → RunGoes (party_at st g) side bag (runs_noted (party_at st g) side s l (Some r) reply)
   note-goes s side bag l r reply k at rule n fits ok =
       let stores = note-stores (party_at st g) s side bag l r at rule n fits in
-      runs-one s side bag (stored s r []) (noted l s r []) reply k stores.move stores.slot ok
+      runs-one s side bag (stored s r []) (noted l s r []) reply k stores.move stores.slot (subst (λ n. Replies s bag (n + 1) reply) (sym (note-long s l r [] n)) ok)
 
   -- ---- each call
 
-  last-replies : (s : SessionId) (bag : List Text) → Replies s bag last_unless_whole
-  last-replies s bag side l k at r t e =
+  last-replies : (s : SessionId) (bag : List Text) (most : ℕ) → Replies s bag most last_unless_whole
+  last-replies s bag most side l k at r few t e =
       last-says (party_at st g) s side bag l at (own-last l.view (stands-in st a b k.world k.reached g s l.view (ap (λ x. view_in s x.records) k.keeps ∙ at.named)) r) t e
 
-  no-replies : (s : SessionId) (bag : List Text) → Replies s bag no_reply
-  no-replies s bag side l k at r t e = absurd (cc e)
+  no-replies : (s : SessionId) (bag : List Text) (most : ℕ) → Replies s bag most no_reply
+  no-replies s bag most side l k at r few t e = absurd (cc e)
 
-  recover-replies : (s : SessionId) (bag : List Text) → Replies s bag (λ after. Some (recover_text (party_at st g) s after.texts))
-  recover-replies s bag side l k at r t e = let same : recover_text (party_at st g) s l.texts ≡ t = cc e in subst (λ x. Sayable (party_at st g) side.records bag x) same (recover-says (party_at st g) s side bag l at)
+  recover-replies : (s : SessionId) (bag : List Text) (most : ℕ) → Replies s bag most (λ after. Some (recover_text (party_at st g) s after.texts))
+  recover-replies s bag most side l k at r few t e = let same : recover_text (party_at st g) s l.texts ≡ t = cc e in subst (λ x. Sayable (party_at st g) side.records bag x) same (recover-says (party_at st g) s side bag l at)
 
-  rescue-goes : (s : SessionId) (side : Side) (bag : List Text) (l : Slot) (reply : Slot → Option Text) → IsSideOf st a b g side bag → SlotAt (party_at st g) s side l → Replies s bag reply → RunGoes (party_at st g) side bag (runs_noted (party_at st g) side s l (rescue_in l.view) reply)
+  pub rescue-goes : (s : SessionId) (side : Side) (bag : List Text) (l : Slot) (reply : Slot → Option Text) → IsSideOf st a b g side bag → SlotAt (party_at st g) s side l → Replies s bag (length l.texts + 1) reply → RunGoes (party_at st g) side bag (runs_noted (party_at st g) side s l (rescue_in l.view) reply)
   rescue-goes s side bag l reply k at ok = go (rescues l.view.role l.view) refl
     where
       go : (c : Bool) → rescues l.view.role l.view ≡ c → RunGoes (party_at st g) side bag (runs_noted (party_at st g) side s l (if c then Some Rescue else None) reply)
@@ -238,11 +238,11 @@ module _ (st : Setting) (a b : Founding) (g : Gateway) where
   abort-goes : (s : SessionId) (side : Side) (bag : List Text) (l : Slot) → IsSideOf st a b g side bag → SlotAt (party_at st g) s side l → (r : Result (Option Rec) Late) → abort_of l.view.role l.view ≡ r
       → RunGoes (party_at st g) side bag (by_tests (first_refusal (None ∷ late_by r ∷ [])) (aborted (party_at st g) side s l r))
   abort-goes s side bag l k at (Err late) e = refused-goes side bag _
-  abort-goes s side bag l k at (Ok None) e = runs-none s side bag l no_reply k at (no-replies s bag)
+  abort-goes s side bag l k at (Ok None) e = runs-none s side bag l no_reply k at (no-replies s bag _)
   abort-goes s side bag l k at (Ok (Some r)) e =
       let stands = stands-in st a b k.world k.reached g s l.view (ap (λ x. view_in s x.records) k.keeps ∙ at.named) in
       let (rule, same) = abort-rule l.view stands r e in
-      subst (λ x. RunGoes (party_at st g) side bag (runs_noted (party_at st g) side s l (Some x) no_reply)) same (note-goes s side bag l (Chose (Back Aborted)) no_reply k at rule tt tt (no-replies s bag))
+      subst (λ x. RunGoes (party_at st g) side bag (runs_noted (party_at st g) side s l (Some x) no_reply)) same (note-goes s side bag l (Chose (Back Aborted)) no_reply k at rule tt tt (no-replies s bag _))
 
   start-goes : (s : SessionId) (terms : Terms) (side : Side) (bag : List Text) → IsLog (party_at st g) side.records → s.gateway ≡ (party_at st g).name → view_in s side.records ≡ None → is_full Origin side.records ≡ false
       → RunGoes (party_at st g) side bag (started (party_at st g) s terms)
@@ -265,13 +265,13 @@ module _ (st : Setting) (a b : Founding) (w : World) (r : Reached st a b w) (g :
   here : IsSideOf st a b g (side_at w g) w.bag
   here = record { world = w; reached = r; keeps = refl; holds = refl }
 
-  slot-at : (l : Slot) → slot_in s (side_at w g).records ≡ Some l → SlotAt (party_at st g) s (side_at w g) l
+  pub slot-at : (l : Slot) → slot_in s (side_at w g).records ≡ Some l → SlotAt (party_at st g) s (side_at w g) l
   slot-at l e = let (named, texts) = slot-parts (view_in s (side_at w g).records) (chain_in s (side_at w g).records) l e in record { log = logs-kept st a b w r g; named = named; texts = texts }
 
   works : (o : Option Slot) → slot_in s (side_at w g).records ≡ o
       → RunGoes (party_at st g) (side_at w g) w.bag (by_tests (test (negate (is_some o)) (Strange s)) (named (λ l. runs (party_at st g) (side_at w g) s l [] last_unless_whole) o))
   works None e = refused-goes st a b g (side_at w g) w.bag _
-  works (Some l) e = runs-none st a b g s (side_at w g) w.bag l last_unless_whole here (slot-at l e) (last-replies st a b g s w.bag)
+  works (Some l) e = runs-none st a b g s (side_at w g) w.bag l last_unless_whole here (slot-at l e) (last-replies st a b g s w.bag _)
 
   aborts : (o : Option Slot) → slot_in s (side_at w g).records ≡ o
       → RunGoes (party_at st g) (side_at w g) w.bag (by_tests (first_refusal (test (negate (is_some o)) (Strange s) ∷ late_in o ∷ [])) (named (λ l. aborted (party_at st g) (side_at w g) s l (abort_of l.view.role l.view)) o))
@@ -281,9 +281,9 @@ module _ (st : Setting) (a b : Founding) (w : World) (r : Reached st a b w) (g :
   rescues-go : (o : Option Slot) → slot_in s (side_at w g).records ≡ o
       → RunGoes (party_at st g) (side_at w g) w.bag (by_tests (test (negate (is_some o)) (Strange s)) (named (rescued (party_at st g) (side_at w g) s) o))
   rescues-go None e = refused-goes st a b g (side_at w g) w.bag _
-  rescues-go (Some l) e = rescue-goes st a b g s (side_at w g) w.bag l (λ after. Some (recover_text (party_at st g) s after.texts)) here (slot-at l e) (recover-replies st a b g s w.bag)
+  rescues-go (Some l) e = rescue-goes st a b g s (side_at w g) w.bag l (λ after. Some (recover_text (party_at st g) s after.texts)) here (slot-at l e) (recover-replies st a b g s w.bag _)
 
-  view-none-of : slot_in s (side_at w g).records ≡ None → view_in s (side_at w g).records ≡ None
+  pub view-none-of : slot_in s (side_at w g).records ≡ None → view_in s (side_at w g).records ≡ None
   view-none-of e = go (view_in s (side_at w g).records) e
     where
       go : (o : Option View) → option_map (λ v. slot v (chain_in s (side_at w g).records)) o ≡ None → o ≡ None

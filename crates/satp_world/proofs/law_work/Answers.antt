@@ -1,3 +1,4 @@
+use Rattle.satp_world.proofs.RunHear.{resent-goes}
 use Rattle.satp_world.proofs.RunLaw.{operators-run}
 use Rattle.satp_world.proofs.WorkLaw.{work-moves}
 use Rattle.satp_world.proofs.law_work.Goals as goal

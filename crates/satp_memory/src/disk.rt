@@ -545,7 +545,7 @@ impl Disk for MemDisk {
         requires { ForSome (Some (told_of self.old)) (λ t. at ≤ length (seen t.trail area)) }
         ensures ok { OnOk result (told_of self.new ≡ made 1 (Wrote area at bytes.now ∷ []) (told_of self.old)) }
         ensures fits { OnOk result (at + length bytes.now ≤ 2 ^ 64 - 1) }
-        ensures err { OnErr result (Fails area (Wrote area at bytes.now) (Some (told_of self.old)) (Some (told_of self.new))) }
+        ensures err { OnErr result (Fails (Wrote area at bytes.now) (Some (told_of self.old)) (Some (told_of self.new))) }
         ensures cause { HasCause self.old.calls.faults self.new.calls.faults result }
         ensures ended { EndsOrWants self.old self.new result }
         ensures adds { Adds (Wrote area at bytes.now) (Wrote area at bytes.now ∷ []) self.old self.new result }
@@ -571,7 +571,7 @@ impl Disk for MemDisk {
     fn cut(&mut self, area: Area, size: u64) -> Result<(), DiskFault>
         requires { ForSome (Some (told_of self.old)) (λ t. size ≤ length (seen t.trail area)) }
         ensures ok { OnOk result (told_of self.new ≡ made 1 (Cut area size ∷ []) (told_of self.old)) }
-        ensures err { OnErr result (Fails area (Cut area size) (Some (told_of self.old)) (Some (told_of self.new))) }
+        ensures err { OnErr result (Fails (Cut area size) (Some (told_of self.old)) (Some (told_of self.new))) }
         ensures cause { HasCause self.old.calls.faults self.new.calls.faults result }
         ensures ended { EndsOrWants self.old self.new result }
         ensures adds { Adds (Cut area size) (Cut area size ∷ []) self.old self.new result }
@@ -596,7 +596,7 @@ impl Disk for MemDisk {
 
     fn sync(&mut self, area: Area) -> Result<(), DiskFault>
         ensures ok { OnOk result (told_of self.new ≡ made 1 (Synced area ∷ []) (told_of self.old)) }
-        ensures err { OnErr result (Fails area (Synced area) (Some (told_of self.old)) (Some (told_of self.new))) }
+        ensures err { OnErr result (Fails (Synced area) (Some (told_of self.old)) (Some (told_of self.new))) }
         ensures cause { HasCause self.old.calls.faults self.new.calls.faults result }
         ensures ended { EndsOrWants self.old self.new result }
         ensures adds { Adds (Synced area) [] self.old self.new result }

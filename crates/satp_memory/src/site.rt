@@ -192,7 +192,7 @@ impl<C: LedgerCore> Disk for MemSite<C> {
         requires { ForSome (Some (told_of self.old.disk)) (λ t. at ≤ length (seen t.trail area)) }
         ensures ok { OnOk result (told_of self.new.disk ≡ made 1 (Wrote area at bytes.now ∷ []) (told_of self.old.disk)) }
         ensures fits { OnOk result (at + length bytes.now ≤ 2 ^ 64 - 1) }
-        ensures err { OnErr result (Fails area (Wrote area at bytes.now) (Some (told_of self.old.disk)) (Some (told_of self.new.disk))) }
+        ensures err { OnErr result (Fails (Wrote area at bytes.now) (Some (told_of self.old.disk)) (Some (told_of self.new.disk))) }
         ensures cause { HasCause self.old.disk.calls.faults self.new.disk.calls.faults result }
         ensures ended { EndsOrWants self.old.disk self.new.disk result }
         ensures adds { Adds (Wrote area at bytes.now) (Wrote area at bytes.now ∷ []) self.old.disk self.new.disk result }
@@ -206,7 +206,7 @@ impl<C: LedgerCore> Disk for MemSite<C> {
     fn cut(&mut self, area: Area, size: u64) -> Result<(), DiskFault>
         requires { ForSome (Some (told_of self.old.disk)) (λ t. size ≤ length (seen t.trail area)) }
         ensures ok { OnOk result (told_of self.new.disk ≡ made 1 (Cut area size ∷ []) (told_of self.old.disk)) }
-        ensures err { OnErr result (Fails area (Cut area size) (Some (told_of self.old.disk)) (Some (told_of self.new.disk))) }
+        ensures err { OnErr result (Fails (Cut area size) (Some (told_of self.old.disk)) (Some (told_of self.new.disk))) }
         ensures cause { HasCause self.old.disk.calls.faults self.new.disk.calls.faults result }
         ensures ended { EndsOrWants self.old.disk self.new.disk result }
         ensures adds { Adds (Cut area size) (Cut area size ∷ []) self.old.disk self.new.disk result }
@@ -219,7 +219,7 @@ impl<C: LedgerCore> Disk for MemSite<C> {
 
     fn sync(&mut self, area: Area) -> Result<(), DiskFault>
         ensures ok { OnOk result (told_of self.new.disk ≡ made 1 (Synced area ∷ []) (told_of self.old.disk)) }
-        ensures err { OnErr result (Fails area (Synced area) (Some (told_of self.old.disk)) (Some (told_of self.new.disk))) }
+        ensures err { OnErr result (Fails (Synced area) (Some (told_of self.old.disk)) (Some (told_of self.new.disk))) }
         ensures cause { HasCause self.old.disk.calls.faults self.new.disk.calls.faults result }
         ensures ended { EndsOrWants self.old.disk self.new.disk result }
         ensures adds { Adds (Synced area) [] self.old.disk self.new.disk result }

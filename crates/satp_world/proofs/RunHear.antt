@@ -1,6 +1,6 @@
 -- The moves of a gateway that hears a message of its peer, kind by kind.
-use Rattle.std.proofs.Common.{◌≡◌, ◌⊎◌, inl, inr, ℕ, zero, suc, ◌+◌, ◌-◌, ◌<◌, ◌≤◌, Bool, true, false, List, [], ◌∷◌, ◌++◌, length, Option, Some, None, Result, Ok, Err, refl, sym, ap, subst, ◌∙◌, arith, if◌then◌else◌}
-use Rattle.std.specs.Prelude.{drop, is_some, nat_le, slice_get, take}
+use Rattle.std.proofs.Common.{◌≡◌, ℕ, zero, suc, ◌+◌, ◌-◌, ◌≤◌, Bool, true, false, List, [], ◌∷◌, length, Option, Some, None, Result, Ok, Err, refl, sym, ap, subst, ◌∙◌, arith, if◌then◌else◌}
+use Rattle.std.specs.Prelude.{drop, is_some, slice_get, take}
 use Rattle.std.proofs.lemmas.Bool.{leb-true}
 use Rattle.satp_base.specs.Canonical.{part_kind}
 use Rattle.satp_base.specs.Chains.{head_of, name_of, role_at}
@@ -15,7 +15,7 @@ use Rattle.satp_base.specs.declared.message.Body.TheVariants as body
 use Rattle.satp_base.specs.declared.message.Link.{Link}
 use Rattle.satp_base.specs.declared.message.Message.{Message}
 use Rattle.satp_base.specs.declared.message.Part.{Part}
-use Rattle.satp_base.specs.declared.message.Role.TheVariants.{Origin, Recipient}
+use Rattle.satp_base.specs.declared.message.Role.TheVariants.{Recipient}
 use Rattle.satp_base.specs.declared.name.Name.{Name}
 use Rattle.satp_base.specs.declared.session.SessionId.{SessionId}
 use Rattle.satp_base.specs.declared.verdict.Verdict.{Verdict}
@@ -24,9 +24,8 @@ use Rattle.satp_base.proofs.Exact as exact
 use Rattle.std.specs.Cmp.Lexicographic.{same_text}
 use Rattle.satp_base.proofs.GenesisLemmas.{equal_name}
 use Rattle.satp_base.proofs.SignatureLemmas.{own_shows}
-use Rattle.satp_sides.specs.Calls.{Refusal, Run, refusal_of, run_of, adopted, adopted_as, asked, fault_in, is_adopt, is_adopted, own_at, replied, step_refusal, update_text, updated, body_refusal, by_tests, chain_of, first_refusal, heard, heard_as, is_full, is_misaddressed, is_named, is_next, is_strange, named, never, refused, runs, taken, again_reply, test, unfit, verdict_in, would_begin, would_take, IsEntryOf}
+use Rattle.satp_sides.specs.Calls.{Refusal, refusal_of, run_of, adopted, adopted_as, asked, fault_in, is_adopt, is_adopted, own_at, replied, step_refusal, update_text, updated, body_refusal, by_tests, chain_of, first_refusal, heard, heard_as, is_full, is_misaddressed, is_next, is_strange, named, runs, taken, again_reply, test, unfit, verdict_in, would_begin, would_take, IsEntryOf}
 use Rattle.satp_sides.specs.Calls.Refusal.{Receiver, Strange, Full}
-use Rattle.satp_sides.specs.LogLaws.{IsOfRole}
 use Rattle.satp_sides.specs.Logs.{IsLog}
 use Rattle.satp_sides.specs.Moves.{Among, Delivered, Sayable, last_texts, message_from}
 use Rattle.satp_sides.specs.Moves.Among.{first, later}
@@ -52,12 +51,11 @@ use Rattle.satp_sides.proofs.Records.{chain-none, is-session}
 use Rattle.satp_world.proofs.KeptLaw.{bag-was-said}
 use Rattle.satp_world.proofs.Limits.{idle}
 use Rattle.satp_world.proofs.WorldLaw.{law_safety}
-use Rattle.satp_sides.specs.Points.{Party, Side, Slot, Stored, Text, chain_in, most_sessions, recipient_at, slot_in, view_in}
+use Rattle.satp_sides.specs.Points.{Party, Slot, Stored, Text, chain_in, most_sessions, recipient_at, slot_in, view_in}
 use Rattle.satp_sides.proofs.LogLaw.{log-sessions}
 use Rattle.satp_world.specs.Work.{HeardRunsMove, RunGoes}
 use Rattle.satp_world.specs.Worlds.{Gateway, Reached, Setting, World, party_at, side_at}
-use Rattle.satp_world.proofs.DueMoves.{SlotAt}
-use Rattle.satp_world.proofs.HearLaw.{IsAgain, is-again, party-apart, peer-place, role-one, take-first, take-named}
+use Rattle.satp_world.proofs.HearLaw.{is-again, party-apart, peer-place, role-one, take-first, take-named}
 use Rattle.satp_world.proofs.KeptLaw.{logs-kept}
 use Rattle.satp_world.proofs.Replies.{again-says, own-at-says, update-says}
 use Rattle.satp_world.proofs.RunLaw.{named-by, refused-goes, rescue-goes, runs-none, slot-at, view-none-of}

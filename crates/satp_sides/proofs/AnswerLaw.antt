@@ -1,9 +1,9 @@
 -- What is due is answered on each entry that one side's invariant allows.
-use Rattle.std.proofs.Common.{◌≡◌, ℕ, Bool, true, false, cond, nat_le, List, [], ◌∷◌, Option, Some, None, refl, sym, ap, subst, ◌∙◌, ◌+◌, inl, inr}
-use Rattle.satp_base.specs.LedgerRule.{entry_of, is_always_answered, lock_on, mint_on, moves, operation, operation_on, stays}
+use Rattle.std.proofs.Common.{◌≡◌, ℕ, Bool, true, false, cond, nat_le, List, Option, Some, None, refl, sym, subst, ◌∙◌, ◌+◌}
+use Rattle.satp_base.specs.LedgerRule.{entry_of, is_always_answered, mint_on, moves, operation, operation_on, stays}
 use Rattle.satp_base.specs.Money.{Book, cap_of, free_of, total_of}
-use Rattle.satp_base.specs.Roles.{both, either, is_aborted, is_back, is_commit, negate, next_of, no_way}
-use Rattle.satp_base.specs.Tales.{IsTale, has, is_kind, last_is, last_of}
+use Rattle.satp_base.specs.Roles.{both, either, is_aborted, is_back, negate, no_way}
+use Rattle.satp_base.specs.Tales.{IsTale, has, last_is, last_of}
 use Rattle.satp_base.specs.declared.ledger.Answer.{Answer}
 use Rattle.satp_base.specs.declared.ledger.Answer.TheVariants.{Done, NoFunds, UnknownAsset, Capped, Taken}
 use Rattle.satp_base.specs.declared.ledger.Entry.{Entry}
@@ -14,22 +14,20 @@ use Rattle.satp_base.specs.declared.message.Kind.{Kind}
 use Rattle.satp_base.specs.declared.message.Kind.TheVariants.{LockAssert, CommitReady, CommitFinal, Rollback}
 use Rattle.satp_base.specs.declared.message.Role.TheVariants.{Origin, Recipient}
 use Rattle.satp_base.specs.declared.message.Terms.{Terms}
-use Rattle.satp_base.specs.declared.record.Cause.{Cause}
 use Rattle.satp_base.specs.declared.record.Next.{Next}
 use Rattle.satp_base.specs.declared.record.Next.TheVariants.{Act}
 use Rattle.satp_base.specs.declared.record.Way.{Way}
-use Rattle.satp_base.specs.declared.record.Way.TheVariants.{Commit, Back}
 use Rattle.satp_base.specs.declared.session.SessionId.{SessionId}
 use Rattle.satp_base.specs.declared.view.View.{View}
-use Rattle.satp_base.proofs.Finite.{all_of, all_of-at, andthen, andthen-make, implies, implies-make, implies-use}
+use Rattle.satp_base.proofs.Finite.{all_of, all_of-at, andthen-make, implies, implies-make, implies-use}
 use Rattle.satp_base.proofs.TaleTable.{tale-in, tales}
 use Rattle.satp_sides.specs.DueLaws.{DueIsAnswered, IsAnswered}
-use Rattle.satp_sides.specs.Halves.{OriginStands, RecipientStands, can_do, entry_is, half}
+use Rattle.satp_sides.specs.Halves.{OriginStands, RecipientStands, can_do, half}
 use Rattle.satp_sides.proofs.AnswerCheck.{origins_answered, recipients_answered}
 use Rattle.satp_sides.proofs.AnswerTable.{answers, origin_answers, origin_fits, recipient_answers, recipient_fits}
 use Rattle.satp_sides.proofs.DueLaw.{next-is}
 use Rattle.satp_sides.proofs.DueTable.{Look, look_of, next_at, origin_look, recipient_look}
-use Rattle.satp_sides.proofs.Lists.{bools, entries, in_bools, in_entries, in_lasts, in_ways, lasts, ways}
+use Rattle.satp_sides.proofs.Lists.{bools, entries, in_bools, in_entries, in_lasts, in_ways, ways}
 
 -- ---- the function answers
 

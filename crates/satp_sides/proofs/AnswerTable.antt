@@ -1,19 +1,17 @@
 -- The test that what is due is answered, over all looks and entries.
-use Rattle.std.proofs.Common.{Bool, true, false, List, [], ◌∷◌, Option, Some, None}
+use Rattle.std.proofs.Common.{Bool, true, Option}
 use Rattle.satp_base.specs.declared.message.Kind.{Kind}
 use Rattle.satp_base.specs.declared.message.Kind.TheVariants.{CommitReady, CommitFinal, Rollback}
 use Rattle.satp_base.specs.declared.ledger.Entry.{Entry}
 use Rattle.satp_base.specs.declared.ledger.Entry.TheVariants.{Absent, Locked, Burnt, Minted, Assigned, Released}
-use Rattle.satp_base.specs.declared.message.Role.{Role}
 use Rattle.satp_base.specs.declared.message.Role.TheVariants.{Origin, Recipient}
 use Rattle.satp_base.specs.declared.record.Next.{Next}
 use Rattle.satp_base.specs.declared.record.Next.TheVariants.{Act}
 use Rattle.satp_base.specs.declared.record.Way.{Way}
 use Rattle.satp_base.specs.LedgerRule.{is_always_answered}
 use Rattle.satp_base.specs.Roles.{either, is_back, is_commit, negate}
-use Rattle.satp_base.specs.Tales.{has, is_kind, last_is}
+use Rattle.satp_base.specs.Tales.{is_kind}
 use Rattle.satp_base.proofs.Finite.{all_of, andthen, implies}
-use Rattle.satp_base.proofs.TaleTable.{tales}
 use Rattle.satp_sides.specs.Halves.{can_do, entry_is}
 use Rattle.satp_sides.proofs.DueTable.{Look, next_at, origin_look, recipient_look}
 use Rattle.satp_sides.proofs.Lists.{bools, entries, lasts, ways}

@@ -1,28 +1,19 @@
 -- The chain of one side of a session: texts of parts.
-use Rattle.std.proofs.Common.{◌≡◌, ℕ, zero, suc, ◌+◌, ◌≤◌, List, [], ◌∷◌, ◌++◌, map, length, Option, Some, None, refl, sym, ap, subst, ◌∙◌, arith, inl, inr}
+use Rattle.std.proofs.Common.{◌≡◌, ℕ, zero, suc, ◌+◌, ◌≤◌, List, [], ◌∷◌, ◌++◌, length, Option, Some, None, sym, ap, subst, ◌∙◌, arith}
 use Rattle.std.specs.Prelude.{slice_get}
 use Rattle.std.specs.List.{AllByRecursion}
-use Rattle.std.proofs.lemmas.List.{length_push}
 use Rattle.satp_base.specs.declared.name.Name.{Name}
 use Rattle.satp_base.specs.declared.session.SessionId.{SessionId}
-use Rattle.satp_base.specs.declared.message.Role.{Role}
-use Rattle.satp_base.specs.declared.message.Role.TheVariants.{Origin, Recipient}
 use Rattle.satp_base.specs.declared.message.Link.{Link}
 use Rattle.satp_base.specs.declared.message.Part.{Part}
-use Rattle.satp_base.specs.declared.message.Part.TheVariants.{Proposal}
 use Rattle.satp_base.specs.declared.message.Body.{Body}
 use Rattle.satp_base.specs.declared.message.Body.TheVariants.{Chain}
 use Rattle.satp_base.specs.declared.message.Message.{Message}
-use Rattle.satp_base.specs.declared.view.View.{View}
-use Rattle.satp_base.specs.Canonical.{part_kind}
 use Rattle.satp_base.specs.Forms.{IsLink, IsMessage, IsPart}
 use Rattle.satp_base.specs.Signatures.{own}
-use Rattle.satp_base.specs.Chains.{last_link, link_of, message_at, next_text, role_at, texts_from, texts_of, zero_link}
-use Rattle.satp_base.specs.Tales.{other}
+use Rattle.satp_base.specs.Chains.{last_link, link_of, message_at, next_text, texts_from, texts_of, zero_link}
 use Rattle.satp_base.proofs.ChainLemmas.{length-texts, link_at_formed, link_formed, texts_appended, zero_formed}
 use Rattle.satp_base.proofs.SignatureLemmas.{own_shows}
-use Rattle.satp_sides.specs.Points.{tale_of, Side, chain_in, view_in}
-use Rattle.satp_sides.specs.Points.{Stored, chain_in, tale_of, view_in}
 use Rattle.satp_sides.proofs.Records.{get-new}
 
 pub formed-more : (parts : List Part) (p : Part) → AllByRecursion IsPart parts → IsPart p → AllByRecursion IsPart (parts ++ p ∷ [])

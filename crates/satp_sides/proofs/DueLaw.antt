@@ -3,7 +3,7 @@ use Rattle.std.proofs.Common.{◌≡◌, ℕ, zero, suc, ◌+◌, ◌≤◌, Boo
 use Rattle.satp_base.specs.LedgerRule.{entry_of, mint_on, moves, operation, operation_on, stays}
 use Rattle.satp_base.specs.Money.{Book, cap_of, free_of, total_of}
 use Rattle.satp_base.specs.Roles.{after_of, next_of}
-use Rattle.satp_base.specs.Tales.{has, is_by, is_kind, kind_eq, last_of}
+use Rattle.satp_base.specs.Tales.{has, kind_eq}
 use Rattle.satp_base.specs.Views.{push}
 use Rattle.satp_base.specs.declared.ledger.Answer.{Answer}
 use Rattle.satp_base.specs.declared.ledger.Answer.TheVariants.{Done, NoFunds, UnknownAsset, Capped, Taken}
@@ -27,11 +27,11 @@ use Rattle.satp_base.proofs.Finite.In.{here, there}
 use Rattle.satp_base.proofs.TaleLemmas.{last-push}
 use Rattle.satp_sides.specs.Due.{Due, after_moves, due, due_answered, due_by, due_text, due_within, nothing_due}
 use Rattle.satp_sides.specs.DueLaws.{DueIsShort, DueRests, MadeRests, Rests, TurnsAreEnough, acts_in, appends_in}
-use Rattle.satp_sides.specs.Points.{Move, Appends, Acts, Says, Party, Slot, noted, stored}
+use Rattle.satp_sides.specs.Points.{Appends, Acts, Party, Slot, noted, stored}
 use Rattle.satp_sides.proofs.DueCheck.{origins_all, recipients_all}
-use Rattle.satp_sides.proofs.DueTable.{Look, due_ok, look_ok, look_of, made_by, made_ok, next_at, origin_look, origins_ok, pushed, recipient_look, recipients_ok, recs_after, rests, turn_ok, with_kind}
+use Rattle.satp_sides.proofs.DueTable.{Look, due_ok, look_ok, look_of, made_by, made_ok, next_at, origin_look, pushed, recipient_look, recs_after, rests, turn_ok, with_kind}
 use Rattle.satp_sides.proofs.Records.{push-head}
-use Rattle.satp_sides.proofs.Lists.{bools, in_bools, in_lasts, in_ways, lasts, ways}
+use Rattle.satp_sides.proofs.Lists.{bools, in_bools, in_lasts, in_ways, ways}
 
 -- ---- views and looks
 

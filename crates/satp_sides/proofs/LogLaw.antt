@@ -1,43 +1,32 @@
 -- What holds of every log, record by record.
-use Rattle.std.proofs.Common.{◌≡◌, ◌⊎◌, inl, inr, ⊎_elim, ℕ, suc, ◌+◌, ◌<◌, ◌≤◌, Bool, true, false, cond, List, [], ◌∷◌, ◌++◌, map, length, Option, Some, None, refl, sym, ap, subst, ◌∙◌, arith}
-use Rattle.std.specs.Prelude.{filter}
+use Rattle.std.proofs.Common.{◌≡◌, ◌⊎◌, inl, inr, ⊎_elim, Bool, true, false, List, [], ◌∷◌, ◌++◌, map, Some, refl, sym, ap, subst, ◌∙◌}
 use Rattle.std.specs.List.{AllByRecursion}
-use Rattle.std.proofs.lemmas.List.{append-nil, append_assoc, length-map, length_push}
-use Rattle.std.proofs.lemmas.List.Elements.{filter-append}
+use Rattle.std.proofs.lemmas.List.{append-nil, append_assoc}
 use Rattle.satp_base.specs.Canonical.{part_kind}
-use Rattle.satp_base.specs.Chains.{ChainOf, last_link, message_at, next_text, texts_of}
-use Rattle.satp_base.specs.Forms.{IsMessage, IsPart, is_entry}
+use Rattle.satp_base.specs.Chains.{next_text, texts_of}
+use Rattle.satp_base.specs.Forms.{IsPart}
 use Rattle.satp_base.specs.Roles.{AreAllowed, IsReached, LawTales, RoleRule}
-use Rattle.satp_base.specs.Signatures.{own}
-use Rattle.satp_base.specs.Tales.{IsTale, maker, other}
+use Rattle.satp_base.specs.Tales.{IsTale}
 use Rattle.satp_base.specs.Views.{KeepsTale, begin, push, view_from}
-use Rattle.satp_base.specs.declared.message.Kind.{Kind}
-use Rattle.satp_base.specs.declared.message.Kind.TheVariants.{TransferProposal}
 use Rattle.satp_base.specs.declared.message.Part.{Part}
 use Rattle.satp_base.specs.declared.message.Part.TheVariants.{Proposal}
 use Rattle.satp_base.specs.declared.message.Role.{Role}
 use Rattle.satp_base.specs.declared.message.Role.TheVariants.{Origin, Recipient}
 use Rattle.satp_base.specs.declared.message.Terms.{Terms}
-use Rattle.satp_base.specs.declared.name.Name.{Name}
 use Rattle.satp_base.specs.declared.record.Rec.{Rec}
-use Rattle.satp_base.specs.declared.record.Rec.TheVariants.{Began, Took, Made, Did, Chose, Rescue}
+use Rattle.satp_base.specs.declared.record.Rec.TheVariants.{Began, Took, Made}
 use Rattle.satp_base.specs.declared.session.SessionId.{SessionId}
 use Rattle.satp_base.specs.declared.view.View.{View}
-use Rattle.satp_base.proofs.ChainLemmas.{zero_formed}
-use Rattle.satp_base.proofs.TaleTable.{tale-short}
-use Rattle.satp_base.proofs.TextSizes.{chain-entry}
 use Rattle.satp_origin.proofs.Tales as origin
 use Rattle.satp_recipient.proofs.Tales as recipient
-use Rattle.satp_sides.specs.LogLaws.{HasText, IsChainOf, IsOfRole, IsSessionOf, LogGrows, LogSessions, LogTexts, LogsAreBounded}
-use Rattle.satp_sides.specs.Logs.{IsLog, IsNote, MayCome}
+use Rattle.satp_sides.specs.LogLaws.{IsOfRole, LogGrows, LogSessions}
+use Rattle.satp_sides.specs.Logs.{IsLog, MayCome}
 use Rattle.satp_sides.specs.Logs.MayCome.{Starts, Accepts, Takes, Makes, Notes}
-use Rattle.satp_sides.specs.Points.{Party, Stored, Text, begun, began_as, chain_in, is_session, most_sessions, recipient_at, records_of, stored, tale_of, view_in}
+use Rattle.satp_sides.specs.Points.{Party, Stored, Text, chain_in, is_session, recipient_at, records_of, stored, tale_of, view_in}
 use Rattle.satp_sides.specs.LogLaws.{HalfChain}
-use Rattle.satp_sides.proofs.Chained.{long, next-formed}
-use Rattle.satp_sides.proofs.Growth.{Carries, half-apart, half-first, half-more, half-noted}
+use Rattle.satp_sides.proofs.Growth.{half-apart, half-first, half-more, half-noted}
 use Rattle.satp_sides.proofs.Growth.Carries.{As_made, As_taken}
-use Rattle.satp_sides.proofs.Records.{from-more, is-session, push-head, session-self, view-apart, view-first, view-here, view-none}
-use Rattle.satp_sides.proofs.Rules.{made-rule, no-proposal, took-rule}
+use Rattle.satp_sides.proofs.Records.{from-more, is-session, push-head, session-self, view-apart, view-first, view-here}
 
 -- ---- lists of records
 

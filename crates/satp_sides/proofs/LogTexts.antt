@@ -4,18 +4,16 @@ use Rattle.std.specs.List.{AllByRecursion, list_all}
 use Rattle.std.proofs.lemmas.Bool.{and_from}
 use Rattle.std.proofs.lemmas.List.{length-map, length_push}
 use Rattle.satp_base.specs.Canonical.{part_kind}
-use Rattle.satp_base.specs.Chains.{last_link, link_of, message_at, next_text, texts_from, texts_of, zero_link}
-use Rattle.satp_base.specs.Forms.{IsLink, IsMessage, IsPart, is_entry}
+use Rattle.satp_base.specs.Chains.{last_link, link_of, message_at, next_text, texts_from, zero_link}
+use Rattle.satp_base.specs.Forms.{IsLink, IsPart, is_entry}
 use Rattle.satp_base.specs.Roles.{RoleRule}
 use Rattle.satp_base.specs.Signatures.{own}
-use Rattle.satp_base.specs.Tales.{IsTale, maker, other}
+use Rattle.satp_base.specs.Tales.{IsTale, other}
 use Rattle.satp_base.specs.declared.message.Kind.{Kind}
 use Rattle.satp_base.specs.declared.message.Link.{Link}
 use Rattle.satp_base.specs.declared.message.Kind.TheVariants.{TransferProposal}
 use Rattle.satp_base.specs.declared.message.Part.{Part}
 use Rattle.satp_base.specs.declared.message.Part.TheVariants.{Proposal}
-use Rattle.satp_base.specs.declared.message.Role.TheVariants.{Origin, Recipient}
-use Rattle.satp_base.specs.declared.message.Terms.{Terms}
 use Rattle.satp_base.specs.declared.name.Name.{Name}
 use Rattle.satp_base.specs.declared.record.Rec.{Rec}
 use Rattle.satp_base.specs.declared.record.Rec.TheVariants.{Began, Took, Made, Did, Chose, Rescue}
@@ -25,9 +23,9 @@ use Rattle.satp_base.proofs.ChainLemmas.{link_at_formed, link_formed, zero_forme
 use Rattle.satp_base.proofs.TaleTable.{tale-short}
 use Rattle.satp_base.proofs.TextSizes.{chain-entry}
 use Rattle.satp_sides.specs.LogLaws.{HasText, IsChainOf, IsSessionOf, LogTexts}
-use Rattle.satp_sides.specs.Logs.{IsLog, IsNote, MayCome}
+use Rattle.satp_sides.specs.Logs.{IsLog, IsNote}
 use Rattle.satp_sides.specs.Logs.MayCome.{Starts, Accepts, Takes, Makes, Notes}
-use Rattle.satp_sides.specs.Points.{Party, Stored, Text, chain_in, recipient_at, tale_of, view_in}
+use Rattle.satp_sides.specs.Points.{Party, Stored, Text, chain_in, recipient_at, view_in}
 use Rattle.satp_sides.proofs.LogLaw.{log-sessions, reached-keeps, reached-tale}
 use Rattle.satp_sides.proofs.Chained.{long}
 use Rattle.satp_sides.proofs.Rules.{made-rule, no-proposal, took-rule}

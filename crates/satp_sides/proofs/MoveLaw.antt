@@ -1,11 +1,10 @@
 -- Lists of moves: their first ones, later bags, and logs.
-use Rattle.std.proofs.Common.{◌≡◌, ℕ, List, [], ◌∷◌, ◌++◌, refl, sym, ap, subst}
-use Rattle.satp_base.specs.declared.message.Body.TheVariants as body
+use Rattle.std.proofs.Common.{ℕ, List, [], ◌∷◌, ◌++◌}
 use Rattle.satp_base.specs.declared.message.Role.TheVariants.{Origin, Recipient}
 use Rattle.satp_base.specs.declared.record.Rec.{Rec}
 use Rattle.satp_base.specs.declared.record.Rec.TheVariants.{Began, Took, Made, Did, Chose, Rescue}
 use Rattle.satp_sides.specs.Logs.{IsLog}
-use Rattle.satp_sides.specs.Moves.{Among, AreMoves, Arrives, ArrivesAs, Delivered, IsMove, Sayable, said, said_by}
+use Rattle.satp_sides.specs.Moves.{Among, AreMoves, ArrivesAs, Delivered, IsMove, Sayable, said, said_by}
 use Rattle.satp_sides.specs.Moves.Among.{first, later}
 use Rattle.satp_sides.specs.Moves.Delivered.{Alone, Listed}
 use Rattle.satp_sides.specs.Moves.Sayable.{Own_text, Recovers, Updates, Succeeds, Knows_none}

@@ -1,5 +1,5 @@
 -- An operation as a move, under the terms of its session.
-use Rattle.std.proofs.Common.{◌≡◌, sym, subst}
+use Rattle.std.proofs.Common.{sym, subst}
 use Rattle.satp_base.specs.LedgerRule.{LedgerRule, operation}
 use Rattle.satp_base.specs.Money.{Book}
 use Rattle.satp_base.specs.declared.ledger.LedgerOp.{LedgerOp}

@@ -1,8 +1,8 @@
 -- Which messages the role's rule lets a side take and make.
-use Rattle.std.proofs.Common.{◌≡◌, Bool, true, false, List, [], ◌∷◌, ◌++◌, Option, Some, None, refl, subst, inl, inr}
+use Rattle.std.proofs.Common.{◌≡◌, Bool, true, false, List, [], ◌∷◌, ◌++◌, Option, Some, refl, subst, inl, inr}
 use Rattle.satp_base.specs.Roles.{RoleRule, next_of}
 use Rattle.satp_base.specs.Roles.RoleRule.{Due, Answered, Free}
-use Rattle.satp_base.specs.Tales.{IsTale, comes_behind, kind_eq, last_of, maker, makes, other}
+use Rattle.satp_base.specs.Tales.{IsTale, comes_behind, last_of, maker, makes, other}
 use Rattle.satp_base.specs.declared.message.Kind.{Kind}
 use Rattle.satp_base.specs.declared.message.Kind.TheVariants.{TransferProposal, ProposalReceipt, TransferCommence, CommenceAck, LockAssert, LockReceipt, CommitPrepare, CommitReady, CommitFinal, CommitFinalAck, TransferComplete, Reject, Rollback, RollbackAck, Recover, RecoverUpdate, RecoverSuccess}
 use Rattle.satp_base.specs.declared.message.Role.{Role}

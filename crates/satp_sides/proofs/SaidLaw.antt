@@ -1,11 +1,11 @@
 -- What may be said was said from then on.
-use Rattle.std.proofs.Common.{◌≡◌, ◌⊎◌, inl, inr, ℕ, zero, suc, ◌+◌, ◌-◌, ◌≤◌, Bool, true, false, List, [], ◌∷◌, ◌++◌, map, length, Option, Some, None, refl, sym, ap, subst, ◌∙◌, arith}
+use Rattle.std.proofs.Common.{◌≡◌, ℕ, zero, suc, ◌-◌, ◌≤◌, Bool, true, false, List, [], ◌∷◌, ◌++◌, length, Some, refl, sym, ap, subst, ◌∙◌, arith}
 use Rattle.std.specs.Prelude.{drop, slice_get, take}
 use Rattle.std.specs.List.{flat_map}
 use Rattle.std.proofs.lemmas.List.{append-nil, append_assoc, length-append, length-drop}
 use Rattle.std.proofs.lemmas.List.Concat.{flat_map-append}
 use Rattle.std.proofs.lemmas.List.Elements.{filter-append}
-use Rattle.satp_base.specs.Chains.{head_of, role_at}
+use Rattle.satp_base.specs.Chains.{head_of}
 use Rattle.satp_base.specs.Forms.{IsMessage}
 use Rattle.satp_base.specs.Signatures.{own}
 use Rattle.satp_base.specs.declared.message.Body.{Body}
@@ -18,7 +18,7 @@ use Rattle.satp_sides.specs.Moves.Sayable.{Own_text, Recovers, Updates, Succeeds
 use Rattle.satp_sides.specs.Points.{Party, Stored, Text, chain_in, is_session, records_of, texts_in_record, view_in}
 use Rattle.satp_sides.specs.Said.{RecoverySays, SaidIsKept, WasSaid}
 use Rattle.satp_sides.specs.Said.WasSaid.{Of_chain, Of_recovery}
-use Rattle.satp_sides.proofs.Records.{get-old, is-session, push-head, view-apart, view-here}
+use Rattle.satp_sides.proofs.Records.{get-old, push-head, view-apart, view-here}
 
 -- ---- records and chains of more records
 

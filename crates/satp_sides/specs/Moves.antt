@@ -11,7 +11,7 @@ use Rattle.satp_base.specs.declared.message.Body.{Body}
 use Rattle.satp_base.specs.declared.message.Body.TheVariants as body
 use Rattle.satp_base.specs.declared.message.Link.{Link}
 use Rattle.satp_base.specs.declared.message.Message.{Message}
-use Rattle.satp_base.specs.declared.message.Role.TheVariants.{Origin, Recipient}
+use Rattle.satp_base.specs.declared.message.Role.TheVariants.{Recipient}
 use Rattle.satp_base.specs.declared.message.Terms.{Terms}
 use Rattle.satp_base.specs.declared.ledger.Answer.{Answer}
 use Rattle.satp_base.specs.declared.ledger.LedgerOp.{LedgerOp}

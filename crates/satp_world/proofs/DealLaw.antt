@@ -1,18 +1,17 @@
 -- The deals that steps lead to from the first one.
-use Rattle.std.proofs.Common.{◌≡◌, ◌⊎◌, inl, inr, ◌↔◌, ℕ, zero, suc, Bool, true, false, List, [], ◌∷◌, refl, sym, subst}
+use Rattle.std.proofs.Common.{◌≡◌, ◌⊎◌, inl, inr, ℕ, suc, Bool, true, false, List, [], ◌∷◌, refl, sym, subst}
 use Rattle.satp_base.specs.declared.ledger.Entry.{Entry}
 use Rattle.satp_base.specs.declared.ledger.Entry.TheVariants.{Absent, Locked, Burnt, Minted, Assigned, Released}
 use Rattle.satp_base.specs.declared.message.Role.{Role}
 use Rattle.satp_base.specs.declared.message.Role.TheVariants.{Origin, Recipient}
-use Rattle.satp_base.proofs.Finite.{all_of, andthen, any_of, any_of-in, all_of-at, implies, implies-use, In}
+use Rattle.satp_base.proofs.Finite.{all_of, any_of, any_of-in, all_of-at, implies, implies-use, In}
 use Rattle.satp_base.proofs.Finite.In.{here, there}
-use Rattle.satp_sides.proofs.Lists.{bools, entries, in_bools, in_entries}
 use Rattle.satp_world.specs.Deal.{Deal, Decision, DealRun, DealStep, DealWithin, IsDealAmong, LawDeals, all_deals, deal, untouched}
 use Rattle.satp_world.specs.Deal.DealRun.{Rests, Goes}
 use Rattle.satp_world.specs.Deal.DealStep.{Locks, Mints, Readies, Commits, Origin_backs, Recipient_backs, Burns, Assigns, Origin_releases, Recipient_releases}
 use Rattle.satp_world.specs.Deal.DealWithin.{At_first, Later}
 use Rattle.satp_world.specs.Deal.IsDealAmong.{Here, There}
-use Rattle.satp_world.proofs.HalfTest.{deal_eq, deal_test}
+use Rattle.satp_world.proofs.HalfTest.{deal_eq}
 use Rattle.std.specs.Prelude.{◌≢◌}
 use Rattle.satp_base.specs.Roles.{both, either, negate}
 use Rattle.satp_sides.specs.Halves.{entry_is}

@@ -1,5 +1,5 @@
 -- Due work of a session that a log names: its moves are moves, as long as each operation is answered.
-use Rattle.std.proofs.Common.{◌≡◌, ℕ, zero, suc, ◌≤◌, Bool, true, false, ◌+◌, List, [], ◌∷◌, ◌++◌, length, Option, Some, None, refl, sym, ap, subst, ◌∙◌, arith}
+use Rattle.std.proofs.Common.{◌≡◌, ℕ, zero, suc, ◌≤◌, Bool, true, false, ◌+◌, List, [], ◌++◌, length, Option, Some, None, refl, sym, ap, subst, ◌∙◌, arith}
 use Rattle.std.proofs.lemmas.List.{append-nil, length_push}
 use Rattle.satp_base.specs.Canonical.{part_kind}
 use Rattle.satp_base.specs.Chains.{made_part, next_text}
@@ -16,7 +16,6 @@ use Rattle.satp_base.specs.declared.message.Kind.{Kind}
 use Rattle.satp_base.specs.declared.message.Kind.TheVariants.{TransferProposal, ProposalReceipt, TransferCommence, CommenceAck, LockAssert, LockReceipt, CommitPrepare, CommitReady, CommitFinal, CommitFinalAck, TransferComplete, Reject, Rollback, RollbackAck, Recover, RecoverUpdate, RecoverSuccess}
 use Rattle.satp_base.specs.declared.message.Role.{Role}
 use Rattle.satp_base.specs.declared.message.Role.TheVariants.{Origin, Recipient}
-use Rattle.satp_base.specs.declared.record.Cause.{Cause}
 use Rattle.satp_base.specs.declared.record.Cause.TheVariants.{Aborted, LockRefused, Rejected, Rescued, UnknownAsset, MintCapped, LedgerTaken}
 use Rattle.satp_base.specs.declared.record.Next.{Next}
 use Rattle.satp_base.specs.declared.record.Next.TheVariants.{Append, Act, Wait, Ended}
@@ -33,9 +32,9 @@ use Rattle.satp_money.proofs.RuleLaw.{gives-rule}
 use Rattle.satp_sides.specs.Due.{Due as Work, due_answered, due_by, due_text, due_within}
 use Rattle.satp_sides.specs.Logs.{IsLog, IsNote, MayCome}
 use Rattle.satp_sides.specs.Logs.MayCome.{Makes, Notes}
-use Rattle.satp_sides.specs.Moves.{AreMoves, ArrivesAs, IsMove, LedgerFits, said_by}
-use Rattle.satp_sides.specs.Points.{Move, Party, Side, Slot, Stored, Text, chain_in, moved, moved_by, noted, recipient_at, stored, texts_in_record, view_in}
-use Rattle.satp_sides.specs.Points.Move.{Appends, Acts, Says}
+use Rattle.satp_sides.specs.Moves.{AreMoves, IsMove, LedgerFits, said_by}
+use Rattle.satp_sides.specs.Points.{Party, Side, Slot, Text, chain_in, moved, moved_by, noted, recipient_at, stored, texts_in_record, view_in}
+use Rattle.satp_sides.specs.Points.Move.{Appends, Acts}
 use Rattle.satp_sides.proofs.DueLaw.{made-rests, still}
 use Rattle.satp_sides.proofs.LogLaw.{log-grows}
 use Rattle.satp_sides.proofs.Making.{arrives-none}

@@ -18,8 +18,7 @@ use Rattle.satp_base.proofs.SessionLemmas.{sessions_total}
 use Rattle.satp_money.proofs.Counting.{standing_at, under}
 use Rattle.satp_sides.specs.Moves.{SideMoves}
 use Rattle.satp_sides.specs.Points.{Party, Side, Stored, Text, is_session, view_in, with_record}
-use Rattle.satp_world.specs.Worlds.{EntriesStand, Gateway, Setting, party_at}
-use Rattle.satp_sides.specs.Moves.{IsAct}
+use Rattle.satp_world.specs.Worlds.{EntriesStand}
 use Rattle.satp_sides.specs.Moves.SideMoves.{Moves, Stops}
 use Rattle.satp_sides.specs.Points.Move.{Appends, Acts, Says}
 use Rattle.satp_base.specs.LedgerRule.{operation}

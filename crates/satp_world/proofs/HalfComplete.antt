@@ -1,18 +1,13 @@
 -- The tables are complete.
-use Rattle.std.proofs.Common.{◌≡◌, Bool, true, false, List, [], ◌∷◌, Option, Some, None}
+use Rattle.std.proofs.Common.{◌≡◌, Bool, true, false, List, [], ◌∷◌, Option}
 use Rattle.satp_base.specs.declared.message.Kind.{Kind}
 use Rattle.satp_base.specs.declared.record.Way.{Way}
-use Rattle.satp_base.specs.declared.record.Way.TheVariants.{Commit, Back}
-use Rattle.satp_base.specs.declared.record.Cause.{Cause}
-use Rattle.satp_base.specs.declared.record.Cause.TheVariants.{Aborted, LockRefused, Rejected, Rescued, UnknownAsset, MintCapped, LedgerTaken}
 use Rattle.satp_base.specs.declared.ledger.Entry.{Entry}
-use Rattle.satp_base.specs.declared.ledger.Entry.TheVariants.{Absent, Locked, Burnt, Minted, Assigned, Released}
 use Rattle.satp_base.specs.declared.view.Done.{Done}
 use Rattle.satp_sides.specs.Halves.{Half}
-use Rattle.satp_sides.proofs.Lists.{bools, dones, entries, in_bools, in_dones, in_entries, in_ways, ways}
+use Rattle.satp_sides.proofs.Lists.{bools, entries, in_bools, in_dones, in_entries, in_ways, ways}
 use Rattle.satp_world.proofs.HalfTable.{Head, half_with, halves_by, origins, recipients, origin_test, recipient_test}
 use Rattle.satp_base.proofs.Finite.{bind, keep, In, In-bind, In-keep}
-use Rattle.satp_base.proofs.Finite.In.{here, there}
 
 in_halves : (p : Head) (t : List Kind) (rescues : List Bool) (parts : Done → Option Way → Entry → Bool) (d : Done) (w : Option Way) (r : Bool) (e : Entry) → In r rescues → parts d w e ≡ true → In (half_with p t d w r e) (halves_by p t rescues parts)
 in_halves q t rescues parts d w r e i p =

@@ -1,12 +1,9 @@
 -- The halves of a session that can stand, as tables.
-use Rattle.std.proofs.Common.{Bool, true, false, List, [], ◌∷◌, Option, Some, None}
+use Rattle.std.proofs.Common.{Bool, false, List, [], ◌∷◌, Option}
 use Rattle.satp_base.specs.declared.message.Kind.{Kind}
 use Rattle.satp_base.specs.declared.message.Kind.TheVariants.{CommenceAck, LockAssert, CommitPrepare, CommitReady, CommitFinal, CommitFinalAck, Reject, Rollback, RollbackAck}
 use Rattle.satp_base.specs.declared.message.Role.{Role}
 use Rattle.satp_base.specs.declared.record.Way.{Way}
-use Rattle.satp_base.specs.declared.record.Way.TheVariants.{Commit, Back}
-use Rattle.satp_base.specs.declared.record.Cause.{Cause}
-use Rattle.satp_base.specs.declared.record.Cause.TheVariants.{Aborted, LockRefused, Rejected, Rescued, UnknownAsset, MintCapped, LedgerTaken}
 use Rattle.satp_base.specs.declared.ledger.Entry.{Entry}
 use Rattle.satp_base.specs.declared.ledger.Entry.TheVariants.{Absent, Locked, Burnt, Minted, Assigned, Released}
 use Rattle.satp_base.specs.declared.view.Done.{Done}

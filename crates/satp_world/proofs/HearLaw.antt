@@ -1,20 +1,18 @@
 -- The moves of a gateway that takes a message of its peer.
-use Rattle.std.proofs.Common.{◌≡◌, ◌≢◌, ◌⊎◌, inl, inr, ℕ, zero, suc, ◌+◌, ◌<◌, ◌≤◌, Bool, true, false, List, [], ◌∷◌, ◌++◌, length, Option, Some, None, refl, sym, ap, subst, ◌∙◌, arith, if◌then◌else◌, not, cond}
+use Rattle.std.proofs.Common.{◌≡◌, ℕ, ◌+◌, Bool, true, false, List, [], ◌∷◌, ◌++◌, length, Some, None, refl, sym, ap, subst, ◌∙◌, if◌then◌else◌, not}
 use Rattle.std.specs.Prelude.{nat_le, nat_lt}
 use Rattle.std.specs.Str.{bytes_eq}
-use Rattle.std.proofs.lemmas.Bool.{leb-false, leb-true}
-use Rattle.std.proofs.lemmas.List.{length_push}
+use Rattle.std.proofs.lemmas.Bool.{leb-false}
 use Rattle.satp_base.specs.Canonical.{part_kind}
 use Rattle.satp_base.specs.Chains.{last_link, link_at, message_at, name_of, next_text, role_at}
-use Rattle.satp_base.specs.Forms.{IsBody, IsMessage, IsPart, IsPlace}
-use Rattle.satp_base.specs.Founding.{Founding, equal_names}
-use Rattle.satp_base.specs.Roles.{Other, RoleRule, both, negate}
+use Rattle.satp_base.specs.Forms.{IsPart}
+use Rattle.satp_base.specs.Founding.{Founding}
+use Rattle.satp_base.specs.Roles.{RoleRule}
 use Rattle.satp_base.specs.Roles.RoleRule.{Free}
 use Rattle.satp_base.specs.Signatures.{own}
-use Rattle.satp_base.specs.Tales.{IsTale, kind_eq, maker, other}
-use Rattle.satp_base.specs.Verdicts.{ChainState, extends, is_settled, kept_verdict, maker_at, next_verdict, place_verdict, same_link, same_name, text_at}
+use Rattle.satp_base.specs.Tales.{IsTale, maker, other}
+use Rattle.satp_base.specs.Verdicts.{ChainState, extends, is_settled, maker_at, place_verdict, same_link, same_name, text_at}
 use Rattle.satp_base.specs.Views.{begin}
-use Rattle.satp_base.specs.declared.message.Body.{Body}
 use Rattle.satp_base.specs.declared.message.Body.TheVariants as body
 use Rattle.satp_base.specs.declared.message.Kind.{Kind}
 use Rattle.satp_base.specs.declared.message.Kind.TheVariants.{TransferProposal}
@@ -28,29 +26,28 @@ use Rattle.satp_base.specs.declared.message.Terms.{Terms}
 use Rattle.satp_base.specs.declared.name.Name.{Name}
 use Rattle.satp_base.specs.declared.record.Rec.TheVariants.{Began, Took}
 use Rattle.satp_base.specs.declared.session.SessionId.{SessionId}
-use Rattle.satp_base.specs.declared.verdict.Verdict.{Verdict}
 use Rattle.satp_base.specs.declared.verdict.Verdict.TheVariants as verdict
 use Rattle.satp_base.specs.declared.view.View.{View}
 use Rattle.satp_base.proofs.Places.{maker-at}
 use Rattle.satp_base.proofs.TaleTable.{kind_eq-is, tale-is, extends-by}
 use Rattle.satp_base.proofs.Finite.In.{here}
-use Rattle.satp_base.proofs.VerdictLemmas.{IsTaken, extends-tale, taken}
-use Rattle.satp_sides.specs.Calls.{again_reply, chain_of, is_full, last_own, never, runs, taken as take_run}
+use Rattle.satp_base.proofs.VerdictLemmas.{extends-tale, taken}
+use Rattle.satp_sides.specs.Calls.{chain_of, is_full, last_own, taken as take_run}
 use Rattle.satp_sides.specs.LogLaws.{IsOfRole}
 use Rattle.satp_sides.specs.Logs.{IsLog, MayCome}
 use Rattle.satp_sides.specs.Logs.MayCome.{Accepts, Takes}
 use Rattle.satp_sides.specs.Moves.{Delivered, IsMove}
-use Rattle.satp_sides.specs.Points.{Move, Party, Side, Slot, Stored, Text, begun, chain_in, moved, most_sessions, noted, recipient_at, records_of, slot, slot_in, stored, view_in}
+use Rattle.satp_sides.specs.Points.{Party, Side, Slot, Text, chain_in, moved, noted, recipient_at, slot, stored, view_in}
 use Rattle.satp_sides.specs.Points.Move.{Appends}
 use Rattle.satp_sides.proofs.LogLaw.{log-grows, log-sessions, reached-tale}
 use Rattle.satp_sides.proofs.LogTexts.{chain-length}
 use Rattle.satp_sides.proofs.Records.{chain-here, chain-none, session-self, view-first}
 use Rattle.satp_world.specs.Work.{RunGoes}
-use Rattle.satp_world.specs.Worlds.{Gateway, Setting, name_at, opposite, party_at}
+use Rattle.satp_world.specs.Worlds.{Gateway, Setting, party_at}
 use Rattle.satp_world.specs.Worlds.Gateway.{A, B}
 use Rattle.satp_world.proofs.DueMoves.{SlotAt, Stores, slot-more}
-use Rattle.satp_world.proofs.Replies.{again-says, last-own-says}
-use Rattle.satp_world.proofs.RunLaw.{named-by, runs-none, runs-one}
+use Rattle.satp_world.proofs.Replies.{last-own-says}
+use Rattle.satp_world.proofs.RunLaw.{named-by, runs-one}
 use Rattle.satp_world.proofs.WorkLaw.{IsSideOf}
 
 -- ---- names
@@ -122,7 +119,7 @@ not-not false e = absurd (cc e)
 pub is-again : (chain : ChainState) (sender : Name) (place : ℕ) (previous : Link) (kind : Kind) (text : Text) (n : ℕ) → place_verdict chain sender place previous kind text ≡ verdict.Again n → IsAgain chain sender place n
 is-again chain sender place previous kind text n e =
     let (at, wrong, held) = again-by (not (same_name sender (maker_at chain place))) (nat_lt (length chain.texts + 1) place) (nat_le place (length chain.texts)) (is_settled chain place) (bytes_eq text (text_at chain.texts place))
-        (not (same_link previous (last_link chain.texts))) (extends chain.tale kind) place n (length chain.texts) (link_at chain.texts place) (last_link chain.texts) e in
+    (not (same_link previous (last_link chain.texts))) (extends chain.tale kind) place n (length chain.texts) (link_at chain.texts place) (last_link chain.texts) e in
     record { place_is = at; sender_is = not-not _ wrong; held = held }
 
 -- ---- a message is stored

@@ -1,18 +1,17 @@
 -- What each side of a reached world keeps.
-use Rattle.std.proofs.Common.{◌≡◌, ℕ, List, [], ◌∷◌, ◌++◌, refl, sym, ap, subst}
+use Rattle.std.proofs.Common.{◌≡◌, List, [], ◌∷◌, ◌++◌, refl, sym, subst}
 use Rattle.std.proofs.lemmas.List.{append-nil}
-use Rattle.satp_base.specs.Founding.{Founding}
 use Rattle.satp_sides.specs.Logs.{IsLog}
-use Rattle.satp_sides.specs.Moves.{AreMoves, Among, SideMoves, said, said_by}
+use Rattle.satp_sides.specs.Moves.{Among, SideMoves, said}
 use Rattle.satp_sides.specs.Moves.Among.{first, later}
 use Rattle.satp_sides.specs.Moves.SideMoves.{Moves, Stops}
-use Rattle.satp_sides.specs.Points.{Move, Party, Side, Stored, Text, moved, moved_by, stored}
+use Rattle.satp_sides.specs.Points.{Party, Side, Stored, Text, moved}
 use Rattle.satp_sides.specs.Points.Move.{Appends, Acts, Says}
 use Rattle.satp_sides.specs.Said.{WasSaid}
 use Rattle.satp_sides.proofs.LogLaw.{log-grows}
 use Rattle.satp_sides.proofs.SaidLaw.{said-kept, said-now}
 use Rattle.satp_world.specs.Kept.{BagWasSaid, LogsAreKept, MovesReach}
-use Rattle.satp_world.specs.Worlds.{Gateway, Reached, Setting, World, WorldMoves, party_at, side_at, with_side}
+use Rattle.satp_world.specs.Worlds.{Gateway, Setting, World, party_at, side_at, with_side}
 use Rattle.satp_world.specs.Worlds.Gateway.{A, B}
 use Rattle.satp_world.specs.Worlds.Reached.{Begins, Goes}
 use Rattle.satp_world.specs.Worlds.WorldMoves.{By}

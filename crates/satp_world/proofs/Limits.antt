@@ -1,8 +1,7 @@
 -- What no move does.
-use Rattle.std.proofs.Common.{◌≡◌, ◌≢◌, ◌⊎◌, inl, inr, ℕ, ◌+◌, ◌-◌, ◌<◌, ◌≤◌, Bool, true, false, cond, List, [], ◌∷◌, ◌++◌, length, Option, Some, None, refl, sym, ap, ◌∙◌, arith}
-use Rattle.std.specs.Prelude.{drop, filter, slice_get}
-use Rattle.std.proofs.lemmas.List.{length_push, length-drop, length-map, append-nil}
-use Rattle.std.proofs.lemmas.List.Elements.{filter-append}
+use Rattle.std.proofs.Common.{◌≡◌, ◌≢◌, ◌⊎◌, inl, inr, ℕ, ◌+◌, true, false, [], ◌∷◌, length, Option, Some, None, refl, sym, ap, ◌∙◌, arith}
+use Rattle.std.specs.Prelude.{slice_get}
+use Rattle.std.proofs.lemmas.List.{length-map}
 use Rattle.satp_base.specs.Canonical.{part_kind}
 use Rattle.satp_base.specs.Chains.{head_of, message_at, name_of, role_at}
 use Rattle.satp_base.specs.Forms.{IsMessage}
@@ -17,19 +16,13 @@ use Rattle.satp_base.specs.declared.message.Message.{Message}
 use Rattle.satp_base.specs.declared.message.Part.TheVariants.{Proposal}
 use Rattle.satp_base.specs.declared.message.Role.{Role}
 use Rattle.satp_base.specs.declared.message.Role.TheVariants.{Origin, Recipient}
-use Rattle.satp_base.specs.declared.record.Rec.{Rec}
-use Rattle.satp_base.specs.declared.record.Rec.TheVariants.{Began, Took, Made, Did, Chose, Rescue}
 use Rattle.satp_base.specs.declared.session.SessionId.{SessionId}
 use Rattle.satp_base.specs.declared.view.View.{View}
 use Rattle.satp_world.specs.Sessions.{HasMint}
 use Rattle.satp_world.specs.Worlds.{Gateway, IsSafeWorld, opposite, Reached, party_at, Setting, World, WorldMoves, name_at, session_in, side_at, with_side}
 use Rattle.satp_world.specs.Worlds.Gateway.{A, B}
-use Rattle.satp_world.specs.Worlds.Reached.{Begins, Goes}
+use Rattle.satp_world.specs.Worlds.Reached.{Goes}
 use Rattle.satp_sides.specs.Moves.Sayable.{Own_text, Recovers, Updates, Succeeds, Knows_none}
-use Rattle.satp_sides.specs.Logs.{MayCome}
-use Rattle.satp_sides.specs.Logs.MayCome.{Starts, Accepts, Takes, Makes, Notes}
-use Rattle.satp_sides.specs.Moves.SideMoves.{Moves, Stops}
-use Rattle.satp_sides.specs.Points.Move.{Appends, Acts, Says}
 use Rattle.satp_world.specs.Worlds.WorldMoves.{By}
 use Rattle.satp_world.specs.Limits.{WasAsked, IsLimited, IsOneOf, LawLimits}
 use Rattle.satp_base.proofs.TaleTable.{tale-short}
@@ -41,10 +34,9 @@ use Rattle.satp_sides.proofs.SaidLaw.{last-of}
 use Rattle.satp_world.proofs.KeptLaw.{logs-kept}
 use Rattle.satp_world.proofs.WorldLaw.{law_safety}
 use Rattle.satp_base.proofs.SignatureLemmas.{own_shows}
-use Rattle.satp_sides.specs.Logs.{IsNote}
 use Rattle.satp_base.specs.declared.message.Link.{Link}
 use Rattle.satp_sides.specs.Moves.{Among, Sayable, SideMoves, last_texts, message_from}
-use Rattle.satp_sides.specs.Points.{Party, with_record, tale_of, Side, Stored, Text, begun, began_as, chain_in, most_sessions, recipient_at, records_of, view_in}
+use Rattle.satp_sides.specs.Points.{tale_of, Text, chain_in, recipient_at, records_of, view_in}
 
 -- ---- no early burn
 

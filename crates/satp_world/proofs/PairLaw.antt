@@ -39,7 +39,6 @@ use Rattle.satp_base.proofs.Places.{maker-at}
 use Rattle.satp_sides.specs.Logs.{IsNote}
 use Rattle.satp_sides.specs.Moves.{LedgerFits}
 use Rattle.satp_sides.specs.Points.{tale_of, Side, chain_in, is_session, records_of, view_in, with_record}
-use Rattle.satp_sides.specs.LogLaws.{HalfChain}
 use Rattle.satp_sides.proofs.Chained.{long, next-formed}
 use Rattle.satp_world.specs.Standing.{PairStands, TiedParts, entry_at, session_by, session_of}
 use Rattle.satp_world.proofs.Tied.{flip-tied, taken}

@@ -1,33 +1,29 @@
 -- The texts that a gateway answers with are texts that it may say.
-use Rattle.std.proofs.Common.{◌≡◌, ◌⊎◌, inl, inr, ℕ, zero, suc, ◌+◌, ◌-◌, ◌%◌, ◌==◌, ◌<◌, ◌≤◌, Bool, true, false, cond, List, [], ◌∷◌, ◌++◌, length, Option, Some, None, refl, sym, ap, subst, ◌∙◌, arith, if◌then◌else◌}
-use Rattle.std.specs.Prelude.{drop, nat_le, slice_get}
+use Rattle.std.proofs.Common.{◌≡◌, inl, inr, ℕ, zero, suc, ◌+◌, ◌-◌, ◌%◌, ◌==◌, ◌<◌, ◌≤◌, Bool, true, false, List, [], ◌∷◌, length, Some, None, refl, sym, ap, subst, ◌∙◌, arith, if◌then◌else◌}
+use Rattle.std.specs.Prelude.{drop, slice_get}
 use Rattle.std.specs.List.{list_all}
 use Rattle.std.proofs.lemmas.Bool.{and_from, and_parts, le-leb}
 use Rattle.std.proofs.lemmas.List.{length-drop}
-use Rattle.satp_base.specs.Chains.{head_of, role_at}
-use Rattle.satp_base.specs.Forms.{IsMessage, are_entries, is_entry}
-use Rattle.satp_base.specs.LedgerRule.{entry_of}
+use Rattle.satp_base.specs.Chains.{role_at}
+use Rattle.satp_base.specs.Forms.{is_entry}
 use Rattle.satp_base.specs.Roles.{both, either, is_commit, negate, next_of}
-use Rattle.satp_base.specs.Tales.{IsTale, has, is_role, is_whole, last_by, last_of, other}
-use Rattle.satp_base.specs.declared.message.Body.TheVariants as body
+use Rattle.satp_base.specs.Tales.{IsTale, has, is_role, is_whole, last_by, other}
 use Rattle.satp_base.specs.declared.message.Kind.{Kind}
-use Rattle.satp_base.specs.declared.message.Kind.TheVariants.{CommitPrepare, CommitReady, TransferProposal}
+use Rattle.satp_base.specs.declared.message.Kind.TheVariants.{CommitReady, TransferProposal}
 use Rattle.satp_base.specs.declared.message.Role.{Role}
 use Rattle.satp_base.specs.declared.message.Role.TheVariants.{Origin, Recipient}
 use Rattle.satp_base.specs.declared.record.Next.{Next}
-use Rattle.satp_base.specs.declared.record.Next.TheVariants.{Wait, Ended}
 use Rattle.satp_base.specs.declared.session.SessionId.{SessionId}
 use Rattle.satp_base.specs.declared.view.View.{View}
 use Rattle.satp_base.proofs.ChainLemmas.{link_at_formed}
 use Rattle.satp_base.proofs.Finite.{all_of, all_of-at, andthen-left, andthen-right, implies, implies-make, implies-use}
-use Rattle.satp_base.proofs.TaleTable.{begun_tales, tale-in, tale-short, tales}
+use Rattle.satp_base.proofs.TaleTable.{tale-in, tale-short}
 use Rattle.satp_sides.specs.Calls.{again_reply, last_of_own, last_own, last_text, last_unless_whole, own_at, recover_text, text_of, update_text}
 use Rattle.satp_sides.specs.DueLaws.{Rests}
-use Rattle.satp_sides.specs.Halves.{OriginStands, RecipientStands, half}
 use Rattle.satp_sides.specs.LogLaws.{IsSessionOf}
-use Rattle.satp_sides.specs.Moves.{Sayable, last_texts, message_from}
+use Rattle.satp_sides.specs.Moves.{Sayable, last_texts}
 use Rattle.satp_sides.specs.Moves.Sayable.{Own_text, Recovers, Updates}
-use Rattle.satp_sides.specs.Points.{Party, Side, Slot, Text, chain_in, view_in}
+use Rattle.satp_sides.specs.Points.{Party, Side, Slot, Text, chain_in}
 use Rattle.satp_sides.proofs.DueLaw.{next-is}
 use Rattle.satp_sides.proofs.DueTable.{look_of, next_at, rests}
 use Rattle.satp_sides.proofs.Lists.{bools, in_bools, in_ways, ways}

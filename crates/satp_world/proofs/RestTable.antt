@@ -1,5 +1,5 @@
 -- Tests over all tales: where nothing is due and the session isn't over, the last message is the side's own; and whose place the last ones are.
-use Rattle.std.proofs.Common.{ℕ, ◌-◌, Bool, true, false, List, [], ◌∷◌, Option, Some, None, length}
+use Rattle.std.proofs.Common.{◌-◌, Bool, List, Option, Some, length}
 use Rattle.satp_base.specs.declared.message.Kind.{Kind}
 use Rattle.satp_base.specs.declared.message.Kind.TheVariants.{CommitPrepare, CommitReady}
 use Rattle.satp_base.specs.declared.message.Role.{Role}
@@ -9,8 +9,8 @@ use Rattle.satp_base.specs.Chains.{role_at}
 use Rattle.satp_base.specs.Roles.{both, either, is_commit, negate}
 use Rattle.satp_base.specs.Tales.{has, is_role, is_whole, last_by, last_of}
 use Rattle.satp_base.proofs.Finite.{all_of, andthen, implies}
-use Rattle.satp_base.proofs.TaleTable.{begun_tales, tales}
-use Rattle.satp_sides.proofs.DueTable.{Look, next_at, origin_look, recipient_look, rests}
+use Rattle.satp_base.proofs.TaleTable.{begun_tales}
+use Rattle.satp_sides.proofs.DueTable.{next_at, origin_look, recipient_look, rests}
 use Rattle.satp_sides.proofs.Lists.{bools, ways}
 
 abbrev pub origin_rests : Bool → Bool → List Kind → Option Way → Bool → Bool → Bool → Bool → Bool

@@ -1,29 +1,26 @@
 -- A gateway has room for each session that its peer has begun.
-use Rattle.std.proofs.Common.{◌≡◌, ℕ, ◌+◌, ◌<◌, ◌≤◌, Bool, true, false, cond, List, [], ◌∷◌, ◌++◌, map, length, Option, Some, None, refl, sym, ap, subst, ◌∙◌, arith}
+use Rattle.std.proofs.Common.{◌≡◌, ℕ, ◌+◌, ◌≤◌, Bool, true, false, cond, List, [], ◌∷◌, ◌++◌, map, length, Option, Some, None, refl, sym, ap, ◌∙◌, arith}
 use Rattle.std.specs.Prelude.{filter}
 use Rattle.std.specs.List.{sum_by}
 use Rattle.std.proofs.lemmas.List.{map-append}
 use Rattle.std.proofs.lemmas.List.Elements.{filter-append}
 use Rattle.std.proofs.lemmas.List.Sums.{sum_by-append, sum_by-cons}
 use Rattle.satp_base.specs.Founding.{Founding, counted}
-use Rattle.satp_base.specs.Views.{begin, push}
+use Rattle.satp_base.specs.Views.{begin}
 use Rattle.satp_base.specs.declared.ledger.Entry.{Entry}
 use Rattle.satp_base.specs.declared.message.Role.{Role}
 use Rattle.satp_base.specs.declared.message.Role.TheVariants.{Origin, Recipient}
-use Rattle.satp_base.specs.declared.record.Rec.{Rec}
-use Rattle.satp_base.specs.declared.record.Rec.TheVariants.{Began, Took, Made}
 use Rattle.satp_base.specs.declared.session.SessionId.{SessionId}
 use Rattle.satp_base.specs.declared.view.View.{View}
-use Rattle.satp_base.specs.Canonical.{part_kind}
 use Rattle.satp_sides.specs.LogLaws.{IsOfRole}
 use Rattle.satp_sides.specs.Logs.{IsLog, MayCome}
 use Rattle.satp_sides.specs.Logs.MayCome.{Starts, Accepts, Takes, Makes, Notes}
-use Rattle.satp_sides.specs.Points.{Party, Stored, Text, begun, began_as, is_session, most_sessions, records_of, view_in}
+use Rattle.satp_sides.specs.Points.{Party, Stored, began_as, is_session, records_of, view_in}
 use Rattle.satp_sides.proofs.Bounds.{logs-bounded, note-begins-not}
 use Rattle.satp_sides.proofs.LogLaw.{log-all, log-sessions}
 use Rattle.satp_sides.proofs.Records.{is-session, push-head, session-self, view-apart, view-first, view-here, view-none}
 use Rattle.satp_world.specs.Kept.{Names, RoomLeft}
-use Rattle.satp_world.specs.Sessions.{Session, SessionStands}
+use Rattle.satp_world.specs.Sessions.{SessionStands}
 use Rattle.satp_world.specs.Worlds.{Gateway, Reached, Setting, World, name_at, opposite, party_at, session_in, side_at}
 use Rattle.satp_world.specs.Worlds.Gateway.{A, B}
 use Rattle.satp_world.proofs.Amounts.{all-within, of, whole}

@@ -1,5 +1,5 @@
 -- What the role's rule allows is a move of a session.
-use Rattle.std.proofs.Common.{◌≡◌, ◌≢◌, Bool, true, false, cond, List, [], ◌∷◌, ◌++◌, Some, refl, sym, ap, subst, ◌∙◌, inl, inr}
+use Rattle.std.proofs.Common.{◌≡◌, ◌≢◌, true, false, cond, List, Some, refl, sym, ap, subst, ◌∙◌, inl, inr}
 use Rattle.std.specs.FinMap.{get, get-insert}
 use Rattle.std.specs.Option.{option_map_or}
 use Rattle.satp_base.specs.declared.ledger.LedgerEntry.{LedgerEntry}
@@ -17,16 +17,13 @@ use Rattle.satp_base.specs.declared.record.Cause.TheVariants.{LockRefused, Unkno
 use Rattle.satp_base.specs.declared.record.Way.TheVariants.{Back}
 use Rattle.satp_base.specs.declared.record.Rec.{Rec}
 use Rattle.satp_base.specs.declared.record.Rec.TheVariants.{Began, Took, Made, Did, Chose, Rescue}
-use Rattle.satp_base.specs.declared.record.Next.{Next}
-use Rattle.satp_base.specs.declared.record.Next.TheVariants.{Append}
 use Rattle.satp_base.specs.declared.view.View.{View}
 use Rattle.satp_base.specs.Money.{Book}
 use Rattle.satp_base.specs.LedgerRule.{LedgerRule, entry_of, leads, moved, result_of, terms_of}
-use Rattle.satp_base.specs.Tales.{IsTale, maker, makes, other}
 use Rattle.satp_base.specs.Views.{push}
-use Rattle.satp_base.specs.Roles.{RoleRule, either, next_of, After}
+use Rattle.satp_base.specs.Roles.{RoleRule, either, After}
 use Rattle.satp_base.specs.Roles.RoleRule.{Due, Answered, Free}
-use Rattle.satp_base.proofs.RoleLemmas.{role-gives, after-shape, makes-is}
+use Rattle.satp_base.proofs.RoleLemmas.{after-shape}
 use Rattle.satp_base.proofs.SessionLemmas.{sessions_total}
 use Rattle.satp_sides.specs.Logs.{IsNote}
 use Rattle.satp_sides.specs.Moves.{RefusesNow, LedgerFits}

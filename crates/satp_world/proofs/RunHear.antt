@@ -1,6 +1,6 @@
 -- The moves of a gateway that hears a message of its peer, kind by kind.
-use Rattle.std.proofs.Common.{◌≡◌, ◌⊎◌, inl, inr, ℕ, zero, suc, ◌+◌, ◌-◌, ◌<◌, ◌≤◌, Bool, true, false, List, [], ◌∷◌, ◌++◌, length, Option, Some, None, Result, Ok, Err, refl, sym, ap, subst, ◌∙◌, arith, if◌then◌else◌}
-use Rattle.std.specs.Prelude.{drop, is_some, nat_le, slice_get, take}
+use Rattle.std.proofs.Common.{◌≡◌, ℕ, zero, suc, ◌+◌, ◌-◌, ◌≤◌, Bool, true, false, List, [], ◌∷◌, length, Option, Some, None, Result, Ok, Err, refl, sym, ap, subst, ◌∙◌, arith, if◌then◌else◌}
+use Rattle.std.specs.Prelude.{drop, is_some, slice_get, take}
 use Rattle.std.proofs.lemmas.Bool.{leb-true}
 use Rattle.satp_base.specs.Canonical.{part_kind}
 use Rattle.satp_base.specs.Chains.{head_of, name_of, role_at}
@@ -15,7 +15,7 @@ use Rattle.satp_base.specs.declared.message.Body.TheVariants as body
 use Rattle.satp_base.specs.declared.message.Link.{Link}
 use Rattle.satp_base.specs.declared.message.Message.{Message}
 use Rattle.satp_base.specs.declared.message.Part.{Part}
-use Rattle.satp_base.specs.declared.message.Role.TheVariants.{Origin, Recipient}
+use Rattle.satp_base.specs.declared.message.Role.TheVariants.{Recipient}
 use Rattle.satp_base.specs.declared.name.Name.{Name}
 use Rattle.satp_base.specs.declared.session.SessionId.{SessionId}
 use Rattle.satp_base.specs.declared.verdict.Verdict.{Verdict}
@@ -24,9 +24,8 @@ use Rattle.satp_base.proofs.Exact as exact
 use Rattle.std.specs.Cmp.Lexicographic.{same_text}
 use Rattle.satp_base.proofs.GenesisLemmas.{equal_name}
 use Rattle.satp_base.proofs.SignatureLemmas.{own_shows}
-use Rattle.satp_sides.specs.Calls.{Refusal, Run, adopted, adopted_as, asked, fault_in, is_adopt, is_adopted, own_at, replied, step_refusal, update_text, updated, body_refusal, by_tests, chain_of, first_refusal, heard, heard_as, is_full, is_misaddressed, is_named, is_next, is_strange, named, never, refused, runs, taken, again_reply, test, unfit, verdict_in, would_take}
+use Rattle.satp_sides.specs.Calls.{Refusal, refusal_of, run_of, adopted, adopted_as, asked, fault_in, is_adopt, is_adopted, own_at, replied, step_refusal, update_text, updated, body_refusal, by_tests, chain_of, first_refusal, heard, heard_as, is_full, is_misaddressed, is_next, is_strange, named, runs, taken, again_reply, test, unfit, verdict_in, would_begin, would_take, IsEntryOf}
 use Rattle.satp_sides.specs.Calls.Refusal.{Receiver, Strange, Full}
-use Rattle.satp_sides.specs.LogLaws.{IsOfRole}
 use Rattle.satp_sides.specs.Logs.{IsLog}
 use Rattle.satp_sides.specs.Moves.{Among, Delivered, Sayable, last_texts, message_from}
 use Rattle.satp_sides.specs.Moves.Among.{first, later}
@@ -48,16 +47,15 @@ use Rattle.satp_base.specs.declared.view.View.{View}
 use Rattle.satp_base.proofs.TaleTable.{tale-short}
 use Rattle.std.proofs.lemmas.List.{length-map}
 use Rattle.satp_sides.proofs.Chained.{message-of}
-use Rattle.satp_sides.proofs.Records.{chain-none}
+use Rattle.satp_sides.proofs.Records.{chain-none, is-session}
 use Rattle.satp_world.proofs.KeptLaw.{bag-was-said}
 use Rattle.satp_world.proofs.Limits.{idle}
 use Rattle.satp_world.proofs.WorldLaw.{law_safety}
-use Rattle.satp_sides.specs.Points.{Party, Side, Slot, Stored, Text, chain_in, most_sessions, recipient_at, slot_in, view_in}
+use Rattle.satp_sides.specs.Points.{Party, Slot, Stored, Text, chain_in, most_sessions, recipient_at, slot_in, view_in}
 use Rattle.satp_sides.proofs.LogLaw.{log-sessions}
-use Rattle.satp_world.specs.Work.{RunGoes}
+use Rattle.satp_world.specs.Work.{HeardRunsMove, RunGoes}
 use Rattle.satp_world.specs.Worlds.{Gateway, Reached, Setting, World, party_at, side_at}
-use Rattle.satp_world.proofs.DueMoves.{SlotAt}
-use Rattle.satp_world.proofs.HearLaw.{IsAgain, is-again, party-apart, peer-place, role-one, take-first, take-named}
+use Rattle.satp_world.proofs.HearLaw.{is-again, party-apart, peer-place, role-one, take-first, take-named}
 use Rattle.satp_world.proofs.KeptLaw.{logs-kept}
 use Rattle.satp_world.proofs.Replies.{again-says, own-at-says, update-says}
 use Rattle.satp_world.proofs.RunLaw.{named-by, refused-goes, rescue-goes, runs-none, slot-at, view-none-of}
@@ -273,3 +271,104 @@ module _ (st : Setting) (a b : Founding) (w : World) (r : Reached st a b w) (g :
       let some = resends-by (head_of (chain_in m.session (side_at w g).records)) n (length entries) _ place (by-takes (head_of (chain_in m.session (side_at w g).records)) n (length entries) _ refl) taken_as in
       absurd (omega (arith, empty, some))
   resent-goes n entries place (Some l) so taken_as = replied-goes (own_at place l) (λ u x. own-at-says (party_at st g) m.session (side_at w g) w.bag l (slot-at st a b w r g m.session l so) place u x)
+
+-- ---- an entry that is adopted
+
+both-true : (x y : Bool) → both x y ≡ true → (x ≡ true) × (y ≡ true)
+both-true true true e = (refl, refl)
+both-true true false e = absurd (cc e)
+both-true false y e = absurd (cc e)
+
+not-true : (x : Bool) → negate x ≡ true → x ≡ false
+not-true true e = absurd (cc e)
+not-true false e = refl
+
+next-is : (v : Verdict) → is_next v ≡ true → v ≡ verdict.Next
+next-is verdict.Next e = refl
+next-is (verdict.Again n) e = absurd (cc e)
+next-is (verdict.Gap n) e = absurd (cc e)
+next-is (verdict.Other n link) e = absurd (cc e)
+next-is (verdict.WrongPrevious link) e = absurd (cc e)
+next-is verdict.WrongSender e = absurd (cc e)
+next-is (verdict.OffTale n) e = absurd (cc e)
+
+holds-by : (x : Bool) (f : Refusal) → test (negate x) f ≡ None → x ≡ true
+holds-by true f e = refl
+holds-by false f e = absurd (cc e)
+
+module _ (st : Setting) (a b : Founding) (w : World) (r : Reached st a b w) (g : Gateway) where
+  abbrev Gate : SessionId → Type 0
+  Gate s = slot_in s (side_at w g).records ≡ None → s.gateway ≡ (party_at st g).peer
+
+  abbrev HasRoom : SessionId → Type 0
+  HasRoom s = slot_in s (side_at w g).records ≡ None → is_full Recipient (side_at w g).records ≡ false
+
+  adopts-here : (m : Message) (t : Text) → IsMessage m → t ≡ own st.key m → Delivered st.key w.bag t → is_misaddressed (party_at st g) m ≡ false → Gate m.session → HasRoom m.session
+      → verdict_in (party_at st g) (side_at w g).records m.session m t ≡ verdict.Next → RunGoes (party_at st g) (side_at w g) w.bag (adopted_as (party_at st g) (side_at w g) m.session t m.body)
+  adopts-here m t f x d to gate room ve = by m.body refl
+    where
+      reads : (c : Body) → m.body ≡ c → body_verdict (chain_of (party_at st g) m.session (slot_in m.session (side_at w g).records)) m.sender t c ≡ verdict.Next
+      reads c is = ap (λ y. body_verdict (chain_of (party_at st g) m.session (slot_in m.session (side_at w g).records)) m.sender t y) (sym is) ∙ ve
+
+      by : (c : Body) → m.body ≡ c → RunGoes (party_at st g) (side_at w g) w.bag (adopted_as (party_at st g) (side_at w g) m.session t c)
+      by (body.Chain place previous q) is =
+          let (to_me, from_peer) = addressed (party_at st g) m to in
+          next-goes st a b w r g m t None f x d place previous q is (slot_in m.session (side_at w g).records) (record { receiver = to_me; sender = from_peer; gate = gate }) refl room ve
+      by (body.Recover n last) is = absurd (cc (reads _ is))
+      by (body.Update n entries) is = absurd (cc (reads _ is))
+      by (body.Success n last) is = absurd (cc (reads _ is))
+
+  adopts-named : (s : SessionId) (m : Message) (t : Text) → m.session ≡ s → IsMessage m → t ≡ own st.key m → Delivered st.key w.bag t → is_misaddressed (party_at st g) m ≡ false → Gate s → HasRoom s
+      → verdict_in (party_at st g) (side_at w g).records s m t ≡ verdict.Next → RunGoes (party_at st g) (side_at w g) w.bag (adopted_as (party_at st g) (side_at w g) s t m.body)
+  adopts-named s m t same f x d to =
+      subst (λ s. Gate s → HasRoom s → verdict_in (party_at st g) (side_at w g).records s m t ≡ verdict.Next → RunGoes (party_at st g) (side_at w g) w.bag (adopted_as (party_at st g) (side_at w g) s t m.body)) same (adopts-here m t f x d to)
+
+  adopt-goes : (s : SessionId) (entries : List Text) (e : Option Message) (n : ℕ) → IsEntryOf st.key (body.Update n entries) e → ((u : Text) → Among u entries → Delivered st.key w.bag u) → Gate s → HasRoom s
+      → is_adopted (party_at st g) (side_at w g).records s entries e ≡ true → RunGoes (party_at st g) (side_at w g) w.bag (adopted (party_at st g) (side_at w g) s entries e)
+  adopt-goes s [] e n is_of came gate room ok = absurd (cc ok)
+  adopt-goes s (t ∷ []) None n is_of came gate room ok = absurd (cc ok)
+  adopt-goes s (t ∷ []) (Some m) n is_of came gate room ok =
+      let (to, more) = both-true _ _ ok in
+      let (same, next) = both-true _ _ more in
+      adopts-named s m t (sym (is-session s m.session same)) is_of.0 is_of.1 (came t first) (not-true _ to) gate room (next-is _ next)
+  adopt-goes s (t ∷ u ∷ ts) e n is_of came gate room ok = absurd (cc ok)
+
+-- ---- every message
+
+module _ (st : Setting) (a b : Founding) (w : World) (r : Reached st a b w) (g : Gateway) (m : Message) (t : Text) (e : Option Message) (formed : IsMessage m) (text : t ≡ own st.key m) (d : Delivered st.key w.bag t) where
+  abbrev head : Head
+  head = head_of (chain_in m.session (side_at w g).records)
+
+  update-goes : (n : ℕ) (entries : List Text) → m.body ≡ body.Update n entries → Heard st a b w r g m t e formed text d → IsEntryOf st.key (body.Update n entries) e → (x : Result Step RecoveryFault)
+      → take_of head n (length entries) ≡ x → (slot_in m.session (side_at w g).records ≡ None → is_adopt x ≡ true → is_full Recipient (side_at w g).records ≡ false)
+      → step_refusal (is_adopted (party_at st g) (side_at w g).records m.session entries e) x ≡ None
+      → RunGoes (party_at st g) (side_at w g) w.bag (updated (party_at st g) (side_at w g) m.session entries e x)
+  update-goes n entries is h of (Err f) te room ok = absurd (cc ok)
+  update-goes n entries is h of (Ok Equal) te room ok = replied-goes st a b w r g m t e formed text d None (λ u x. cc x)
+  update-goes n entries is h of (Ok (Resend place)) te room ok = resent-goes st a b w r g m t e formed text d n entries place (slot_in m.session (side_at w g).records) refl te
+  update-goes n entries is h of (Ok (Adopt place)) te room ok =
+      let in_bag = alone st a b w r t d m formed text (λ c. subst IsChains is c) in
+      adopt-goes st a b w r g m.session entries e n of (λ u i. Listed m n entries formed in_bag is i) h.gate (λ none. room none refl) (holds-by _ _ ok)
+
+  body-goes : (c : Body) → m.body ≡ c → Heard st a b w r g m t e formed text d → IsEntryOf st.key c e → Room st a b w r g m t e formed text d c → body_refusal (party_at st g) (side_at w g).records m t e c ≡ None
+      → RunGoes (party_at st g) (side_at w g) w.bag (heard (party_at st g) (side_at w g) m t e c)
+  body-goes (body.Chain place previous q) is h of room ok = chain-goes st a b w r g m t e formed text d place previous q is _ h room refl ok
+  body-goes (body.Recover n last) is h of room ok = asked-goes st a b w r g m t e formed text d n last is (slot_in m.session (side_at w g).records) refl h ok
+  body-goes (body.Update n entries) is h of room ok = update-goes n entries is h of _ refl room ok
+  body-goes (body.Success n last) is h of room ok = replied-goes st a b w r g m t e formed text d None (λ u x. cc x)
+
+  pub hears-goes : IsEntryOf st.key m.body e → (misaddressed strange : Bool) (unfits : Option Refusal) (full : Bool) → is_misaddressed (party_at st g) m ≡ misaddressed → is_strange (party_at st g) (side_at w g).records m.session ≡ strange
+      → body_refusal (party_at st g) (side_at w g).records m t e m.body ≡ unfits → both (would_begin (party_at st g) (side_at w g).records m t) (is_full Recipient (side_at w g).records) ≡ full
+      → RunGoes (party_at st g) (side_at w g) w.bag (by_tests (first_refusal (test misaddressed Receiver ∷ test strange (Strange m.session) ∷ unfits ∷ test full (Full most_sessions) ∷ [])) (heard (party_at st g) (side_at w g) m t e m.body))
+  hears-goes of true strange unfits full to known fit left = refused-goes st a b g (side_at w g) w.bag _
+  hears-goes of false true unfits full to known fit left = refused-goes st a b g (side_at w g) w.bag _
+  hears-goes of false false (Some f) full to known fit left = refused-goes st a b g (side_at w g) w.bag _
+  hears-goes of false false None true to known fit left = refused-goes st a b g (side_at w g) w.bag _
+  hears-goes of false false None false to known fit left =
+      let (to_me, from_peer) = addressed (party_at st g) m to in
+      let h : Heard st a b w r g m t e formed text d = record { receiver = to_me; sender = from_peer; gate = of-peer (party_at st g) (side_at w g).records m.session known } in
+      body-goes m.body refl h of (begins-not (slot_in m.session (side_at w g).records) (would_take (party_at st g) (side_at w g).records m t m.body) (is_full Recipient (side_at w g).records) left) fit
+
+pub heard-run : HeardRunsMove
+unfolding run_of refusal_of
+heard-run st a b w r g m t e ((formed, text), of) d = hears-goes st a b w r g m t e formed text d of _ _ _ _ refl refl refl refl

@@ -1,38 +1,31 @@
 -- The moves of a run may be made in a reached world.
-use Rattle.std.proofs.Common.{◌≡◌, ◌⊎◌, inl, inr, ℕ, zero, suc, ◌+◌, ◌<◌, ◌≤◌, Bool, true, false, List, [], ◌∷◌, ◌++◌, length, Option, Some, None, option_map, Result, Ok, Err, refl, sym, ap, subst, ◌∙◌, arith, if◌then◌else◌}
-use Rattle.std.specs.Prelude.{is_some, nat_le, slice_get}
+use Rattle.std.proofs.Common.{◌≡◌, ◌⊎◌, inl, inr, ℕ, ◌+◌, ◌≤◌, Bool, true, false, List, [], ◌∷◌, ◌++◌, length, Option, Some, None, option_map, Result, Ok, Err, refl, sym, ap, subst, ◌∙◌, if◌then◌else◌}
+use Rattle.std.specs.Prelude.{is_some, slice_get}
 use Rattle.std.proofs.lemmas.Bool.{leb-false}
 use Rattle.satp_base.specs.Founding.{Founding}
 use Rattle.satp_base.specs.Chains.{next_text}
-use Rattle.satp_base.specs.LedgerRule.{entry_of, operation}
-use Rattle.satp_base.specs.Money.{Book}
-use Rattle.satp_base.specs.Roles.{RoleRule, abort_of, after_of, both, either, is_back, is_commit, is_late, is_turned, negate, next_of, no_way, rescues}
+use Rattle.satp_base.specs.Roles.{RoleRule, abort_of, both, either, is_back, is_commit, is_late, is_turned, negate, next_of, no_way, rescues}
 use Rattle.satp_base.specs.Roles.RoleRule.{Free}
 use Rattle.satp_base.specs.Tales.{IsTale, has, is_whole, last_by}
-use Rattle.satp_base.specs.Views.{begin, push}
-use Rattle.satp_base.specs.declared.ledger.Answer.{Answer}
+use Rattle.satp_base.specs.Views.{begin}
 use Rattle.satp_base.specs.declared.ledger.Entry.{Entry}
-use Rattle.satp_base.specs.declared.ledger.LedgerOp.{LedgerOp}
 use Rattle.satp_base.specs.declared.message.Kind.{Kind}
-use Rattle.satp_base.specs.declared.message.Kind.TheVariants.{CommitReady, CommitFinal, Rollback, TransferProposal}
+use Rattle.satp_base.specs.declared.message.Kind.TheVariants.{CommitFinal, Rollback}
 use Rattle.satp_base.specs.declared.message.Part.TheVariants.{Proposal}
-use Rattle.satp_base.specs.declared.message.Role.{Role}
 use Rattle.satp_base.specs.declared.message.Role.TheVariants.{Origin, Recipient}
 use Rattle.satp_base.specs.declared.message.Terms.{Terms}
 use Rattle.satp_base.specs.declared.record.Cause.TheVariants.{Aborted}
-use Rattle.satp_base.specs.declared.record.Next.{Next}
-use Rattle.satp_base.specs.declared.record.Next.TheVariants.{Append, Act, Wait, Ended}
 use Rattle.satp_base.specs.declared.record.Rec.{Rec}
-use Rattle.satp_base.specs.declared.record.Rec.TheVariants.{Began, Took, Made, Did, Chose, Rescue}
+use Rattle.satp_base.specs.declared.record.Rec.TheVariants.{Began, Chose, Rescue}
 use Rattle.satp_base.specs.declared.record.TooLate.{TooLate as Late}
 use Rattle.satp_base.specs.declared.record.Way.{Way}
 use Rattle.satp_base.specs.declared.record.Way.TheVariants.{Commit, Back}
 use Rattle.satp_base.specs.declared.session.SessionId.{SessionId}
 use Rattle.satp_base.specs.declared.view.View.{View}
-use Rattle.satp_base.proofs.Finite.{all_of, all_of-at, implies, implies-use}
+use Rattle.satp_base.proofs.Finite.{all_of-at, implies, implies-use}
 use Rattle.satp_base.proofs.RecordLaws.{rescue-allowed}
-use Rattle.satp_base.proofs.TaleTable.{tale-in, tales}
-use Rattle.satp_sides.specs.Calls.{Call, IsOfOwn, IsOperators, Refusal, Run, aborted, by_tests, ended, first_refusal, is_full, last_unless_whole, late_by, late_in, named, never, no_reply, recover_text, refusal_of, refused, rescue_in, rescued, run_of, runs, runs_noted, says, started, test}
+use Rattle.satp_base.proofs.TaleTable.{tale-in}
+use Rattle.satp_sides.specs.Calls.{Refusal, aborted, by_tests, ended, first_refusal, is_full, last_unless_whole, late_by, late_in, named, no_reply, recover_text, refusal_of, refused, rescue_in, rescued, run_of, runs, runs_noted, says, started, test}
 use Rattle.satp_sides.specs.Calls.Call.{Starts, Works, Aborts, Rescues, Hears}
 use Rattle.satp_sides.specs.Calls.Refusal.{Exists, Strange, Full}
 use Rattle.satp_sides.specs.Due.{Due, due, due_within}
@@ -43,16 +36,16 @@ use Rattle.satp_sides.specs.Logs.MayCome.{Starts as Starts_record, Accepts, Take
 use Rattle.satp_sides.specs.Moves.{AreMoves, IsMove, LedgerFits, Sayable, said_by}
 use Rattle.satp_sides.specs.Moves.Sayable.{Own_text}
 use Rattle.satp_sides.specs.Moves.SideMoves.{Moves}
-use Rattle.satp_sides.specs.Points.{Move, Party, Side, Slot, Stored, Text, begun, chain_in, is_session, moved, moved_by, most_sessions, noted, records_of, slot, slot_in, stored, view_in}
+use Rattle.satp_sides.specs.Points.{Move, Party, Side, Slot, Stored, Text, chain_in, is_session, moved, moved_by, most_sessions, noted, records_of, slot, slot_in, stored, view_in}
 use Rattle.satp_sides.specs.Points.Move.{Appends, Acts, Says}
 use Rattle.satp_sides.proofs.DueLaw.{due-rests}
-use Rattle.satp_sides.proofs.LogLaw.{log-all, log-grows}
+use Rattle.satp_sides.proofs.LogLaw.{log-all}
 use Rattle.satp_sides.proofs.MoveLaw.{moves-go}
-use Rattle.satp_sides.proofs.Records.{chain-here, chain-none, is-session, records-apart, session-self, view-apart, view-first, view-here, view-none}
+use Rattle.satp_sides.proofs.Records.{chain-here, chain-none, is-session, records-apart, session-self, view-apart, view-first, view-here}
 use Rattle.satp_world.specs.Work.{OperatorsRunsMove, RunGoes}
 use Rattle.satp_world.specs.Worlds.{Gateway, Reached, Setting, World, name_at, opposite, party_at, session_in, side_at}
 use Rattle.satp_world.specs.Worlds.Gateway.{A, B}
-use Rattle.satp_world.proofs.DueMoves.{SlotAt, WorkGoes, note-long, note-stores, one-more, work-goes}
+use Rattle.satp_world.proofs.DueMoves.{SlotAt, note-long, note-stores, one-more, work-goes}
 use Rattle.satp_world.proofs.KeptLaw.{logs-kept}
 use Rattle.satp_world.proofs.Replies.{last-says, origin-own, recipient-own, recover-says}
 use Rattle.satp_world.proofs.WorkLaw.{IsSideOf, moved-on, ordered, origin-side, recipient-side, slot-parts}

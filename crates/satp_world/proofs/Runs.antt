@@ -1,5 +1,5 @@
 -- Moves of both gateways on one session, put together: what each does to both sides' records.
-use Rattle.std.proofs.Common.{◌≡◌, ℕ, zero, suc, ◌+◌, ◌-◌, ◌<◌, ◌≤◌, Bool, true, false, List, [], ◌∷◌, ◌++◌, length, drop, Some, refl, sym, ap, subst, ◌∙◌, arith}
+use Rattle.std.proofs.Common.{◌≡◌, ℕ, zero, suc, ◌+◌, ◌-◌, ◌≤◌, Bool, true, false, List, [], ◌∷◌, ◌++◌, length, drop, Some, refl, sym, ap, subst, ◌∙◌, arith}
 use Rattle.std.specs.Prelude.{slice_get}
 use Rattle.std.proofs.lemmas.Bool.{and_from}
 use Rattle.std.proofs.lemmas.List.{length_push}
@@ -23,23 +23,20 @@ use Rattle.satp_base.specs.declared.message.Role.TheVariants.{Origin, Recipient}
 use Rattle.satp_base.specs.declared.message.Terms.{Terms}
 use Rattle.satp_base.specs.declared.record.Next.TheVariants.{Act}
 use Rattle.satp_base.specs.declared.record.Rec.{Rec}
-use Rattle.satp_base.specs.declared.record.Rec.TheVariants.{Began, Took, Made, Did, Chose, Rescue}
+use Rattle.satp_base.specs.declared.record.Rec.TheVariants.{Began, Took, Made, Rescue}
 use Rattle.satp_base.specs.declared.session.SessionId.{SessionId}
 use Rattle.satp_base.specs.declared.view.View.{View}
 use Rattle.satp_base.proofs.ChainLemmas.{link_at_formed}
 use Rattle.satp_sides.specs.Logs.{IsNote}
-use Rattle.satp_base.proofs.RuleLemmas.{rule-gives}
-use Rattle.satp_sides.specs.Moves.{ArrivesAs, Delivered, SideMoves, Among, LedgerFits, Sayable, last_texts, message_from}
-use Rattle.satp_sides.specs.Points.{is_session, Party, begun, most_sessions, records_of, with_record, Side, Stored, Text, chain_in, recipient_at, view_in}
+use Rattle.satp_sides.specs.Moves.{Among, LedgerFits, Sayable, last_texts, message_from}
+use Rattle.satp_sides.specs.Points.{is_session, Side, Stored, Text, chain_in, recipient_at, view_in}
 use Rattle.satp_world.specs.Worlds.{Gateway, Reached, opposite, party_at, Setting, World}
 use Rattle.satp_sides.specs.Moves.Among.{first, later}
 use Rattle.satp_sides.specs.Moves.Delivered.{Alone as Alone_text, Listed}
 use Rattle.satp_world.specs.Worlds.Gateway.{A, B}
 use Rattle.satp_world.specs.Worlds.Reached.{Begins, Goes}
 use Rattle.satp_sides.specs.Moves.Sayable.{Own_text, Recovers, Updates, Succeeds, Knows_none}
-use Rattle.satp_sides.specs.Logs.MayCome.{Starts, Accepts, Takes, Makes, Notes}
-use Rattle.satp_sides.specs.Moves.SideMoves.{Moves, Stops}
-use Rattle.satp_sides.specs.Points.Move.{Appends, Acts, Says}
+use Rattle.satp_sides.specs.Moves.SideMoves.{Stops}
 use Rattle.satp_world.specs.Worlds.WorldMoves.{By}
 use Rattle.satp_world.specs.Examples.{first_book}
 use Rattle.satp_sides.proofs.Making.{accepts, acts, makes, notes, proposes, says, takes}

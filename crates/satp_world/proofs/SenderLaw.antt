@@ -1,10 +1,9 @@
 -- Who knows the session of a text in the bag, and how long texts are.
-use Rattle.std.proofs.Common.{◌≡◌, ◌⊎◌, inl, inr, ℕ, ◌+◌, ◌≤◌, ◌&&◌, Bool, true, false, List, [], ◌∷◌, length, Some, None, refl, sym, ap, subst, ◌∙◌, arith}
+use Rattle.std.proofs.Common.{◌≡◌, ◌⊎◌, inl, inr, ℕ, Bool, true, List, [], ◌∷◌, length, Some, refl, sym, ap, subst, ◌∙◌, arith}
 use Rattle.std.specs.Prelude.{nat_le}
 use Rattle.std.specs.List.{list_all}
 use Rattle.std.proofs.lemmas.Bool.{and_parts}
-use Rattle.satp_base.specs.Chains.{head_of, role_at}
-use Rattle.satp_base.specs.Forms.{IsBody, IsMessage, are_entries, is_entry, is_entry_byte}
+use Rattle.satp_base.specs.Forms.{IsBody, IsMessage, is_entry, is_entry_byte}
 use Rattle.satp_base.specs.Founding.{Founding}
 use Rattle.satp_base.specs.Signatures.{own}
 use Rattle.satp_base.specs.declared.message.Body.{Body}
@@ -16,16 +15,14 @@ use Rattle.satp_base.specs.declared.view.View.{View}
 use Rattle.satp_base.proofs.Forms.{form_parts}
 use Rattle.satp_base.proofs.SignatureLemmas.{own_shows}
 use Rattle.satp_base.proofs.TextSizes.{own-short}
-use Rattle.satp_sides.specs.Moves.{Among, Delivered, Sayable, SideMoves, message_from}
+use Rattle.satp_sides.specs.Moves.{Among, Sayable, SideMoves}
 use Rattle.satp_sides.specs.Moves.Among.{first, later}
 use Rattle.satp_sides.specs.Moves.Delivered.{Alone, Listed}
-use Rattle.satp_sides.specs.Moves.Sayable.{Own_text, Recovers, Updates, Succeeds, Knows_none}
 use Rattle.satp_sides.specs.Moves.SideMoves.{Moves, Stops}
-use Rattle.satp_sides.specs.Points.{Party, Side, Stored, Text, records_of, view_in}
+use Rattle.satp_sides.specs.Points.{Party, Side, Text, view_in}
 use Rattle.satp_sides.specs.Points.Move.{Appends, Acts, Says}
 use Rattle.satp_sides.proofs.SaidLaw.{still-named}
 use Rattle.satp_world.specs.Kept.{IsKnown, Names, SaidIsShort, SenderKnows}
-use Rattle.satp_world.specs.Limits.{IsOneOf}
 use Rattle.satp_world.specs.Worlds.{Gateway, Reached, Setting, World, name_at, opposite, party_at, side_at, with_side}
 use Rattle.satp_world.specs.Worlds.Gateway.{A, B}
 use Rattle.satp_world.specs.Worlds.Reached.{Begins, Goes}

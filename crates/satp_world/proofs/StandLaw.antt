@@ -1,15 +1,14 @@
 -- What two sides keep along moves, and the deal of each session.
-use Rattle.std.proofs.Common.{◌≡◌, ◌⊎◌, inl, inr, false, refl, sym, ap, subst, ◌∙◌}
+use Rattle.std.proofs.Common.{◌≡◌, inl, inr, false, sym, subst}
 use Rattle.satp_base.specs.Founding.{Founding}
-use Rattle.satp_base.specs.LedgerRule.{entry_of}
 use Rattle.satp_base.specs.declared.message.Role.{Role}
 use Rattle.satp_base.specs.declared.session.SessionId.{SessionId}
-use Rattle.satp_world.specs.Deal.{Deal, Decision, DealRun, DealStep, untouched}
+use Rattle.satp_world.specs.Deal.{Deal, Decision, DealRun, untouched}
 use Rattle.satp_world.specs.Deal.DealRun.{Rests, Goes}
 use Rattle.satp_world.specs.Sessions.{GoesOn, Session, deal_of}
-use Rattle.satp_world.specs.Standing.{MovesStand, SessionsRun, SessionsRunFromTheFirst, WorldRun, WorldStands}
+use Rattle.satp_world.specs.Standing.{MovesStand, SessionsRun, SessionsRunFromTheFirst, WorldRun}
 use Rattle.satp_world.specs.Standing.WorldRun.{Rests as Run_rests, Goes as Run_goes}
-use Rattle.satp_world.specs.Worlds.{DealGoesOn, Gateway, Reached, Setting, World, WorldMoves, as_deal, name_at, session_in, side_at, start}
+use Rattle.satp_world.specs.Worlds.{DealGoesOn, Gateway, Reached, Setting, World, as_deal, session_in, start}
 use Rattle.satp_world.specs.Worlds.Gateway.{A, B}
 use Rattle.satp_world.specs.Worlds.Reached.{Begins as Reached_first, Goes as Reached_next}
 use Rattle.satp_world.specs.Worlds.WorldMoves.{By}

@@ -14,7 +14,6 @@ use Rattle.satp_base.specs.declared.record.Rec.{Rec}
 use Rattle.satp_base.specs.declared.record.Rec.TheVariants.{Began, Took, Made, Did, Chose, Rescue}
 use Rattle.satp_base.specs.Tales.{IsTale, maker, is_role, is_whole, other}
 use Rattle.satp_base.specs.declared.view.View.{View}
-use Rattle.satp_base.specs.Views.{push}
 use Rattle.satp_base.specs.Roles.{both, negate, no_way, next_of, After, Other}
 use Rattle.satp_sides.specs.Halves.{Half, OriginStands, RecipientStands, Agrees, after_record, with_entry, can_do, entry_is}
 use Rattle.satp_world.specs.Sessions.{Tied, Stands, Moves, GoesOn}

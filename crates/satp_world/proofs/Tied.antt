@@ -1,5 +1,5 @@
 -- The chains of both sides of a session: one list of parts is the other, or longer by one.
-use Rattle.std.proofs.Common.{◌≡◌, ℕ, zero, suc, ◌+◌, ◌≤◌, List, [], ◌∷◌, ◌++◌, map, length, Option, Some, None, refl, sym, ap, subst, ◌∙◌, arith, inl, inr}
+use Rattle.std.proofs.Common.{◌≡◌, ℕ, ◌+◌, ◌≤◌, List, [], ◌∷◌, ◌++◌, length, Some, refl, sym, ap, subst, ◌∙◌, arith, inl, inr}
 use Rattle.std.specs.Prelude.{slice_get}
 use Rattle.std.specs.List.{AllByRecursion}
 use Rattle.std.proofs.lemmas.List.{length_push}
@@ -7,21 +7,11 @@ use Rattle.satp_base.specs.declared.name.Name.{Name}
 use Rattle.satp_base.specs.declared.session.SessionId.{SessionId}
 use Rattle.satp_base.specs.declared.message.Role.{Role}
 use Rattle.satp_base.specs.declared.message.Role.TheVariants.{Origin, Recipient}
-use Rattle.satp_base.specs.declared.message.Link.{Link}
 use Rattle.satp_base.specs.declared.message.Part.{Part}
-use Rattle.satp_base.specs.declared.message.Part.TheVariants.{Proposal}
-use Rattle.satp_base.specs.declared.message.Body.{Body}
-use Rattle.satp_base.specs.declared.message.Body.TheVariants.{Chain}
-use Rattle.satp_base.specs.declared.message.Message.{Message}
-use Rattle.satp_base.specs.declared.view.View.{View}
-use Rattle.satp_base.specs.Canonical.{part_kind}
-use Rattle.satp_base.specs.Forms.{IsLink, IsMessage, IsPart}
-use Rattle.satp_base.specs.Signatures.{own}
-use Rattle.satp_base.specs.Chains.{last_link, link_of, message_at, next_text, role_at, texts_from, texts_of, zero_link}
+use Rattle.satp_base.specs.Forms.{IsPart}
+use Rattle.satp_base.specs.Chains.{next_text, role_at, texts_of}
 use Rattle.satp_base.specs.Tales.{other}
-use Rattle.satp_base.proofs.ChainLemmas.{length-texts, link_at_formed, link_formed, texts_appended, zero_formed}
-use Rattle.satp_base.proofs.SignatureLemmas.{own_shows}
-use Rattle.satp_sides.specs.Points.{tale_of, Side, chain_in, view_in}
+use Rattle.satp_base.proofs.ChainLemmas.{texts_appended}
 use Rattle.satp_world.specs.Standing.{TiedParts}
 use Rattle.satp_world.specs.Standing.TiedParts.{Same, Mine_ahead, Peer_ahead}
 use Rattle.satp_sides.proofs.Chained.{formed-last, get-next, long, next-formed, one-part}

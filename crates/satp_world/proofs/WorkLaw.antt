@@ -1,12 +1,11 @@
 -- In a reached world due work is in order, and its moves are moves.
-use Rattle.std.proofs.Common.{◌≡◌, ◌⊎◌, inl, inr, ℕ, zero, suc, Bool, true, List, [], ◌∷◌, Option, Some, None, option_map, refl, sym, ap, subst, ◌∙◌}
+use Rattle.std.proofs.Common.{◌≡◌, ◌⊎◌, inl, inr, ℕ, zero, suc, true, List, [], Option, Some, None, option_map, refl, sym, ap, subst, ◌∙◌}
 use Rattle.satp_base.specs.Founding.{Founding}
 use Rattle.satp_base.specs.LedgerRule.{entry_of, operation}
 use Rattle.satp_base.specs.Roles.{after_of, next_of}
 use Rattle.satp_base.specs.declared.ledger.Answer.{Answer}
 use Rattle.satp_base.specs.declared.ledger.Entry.{Entry}
 use Rattle.satp_base.specs.declared.ledger.LedgerOp.{LedgerOp}
-use Rattle.satp_base.specs.declared.message.Role.{Role}
 use Rattle.satp_base.specs.declared.message.Role.TheVariants.{Origin, Recipient}
 use Rattle.satp_base.specs.declared.record.Next.{Next}
 use Rattle.satp_base.specs.declared.record.Next.TheVariants.{Append, Act, Wait, Ended}
@@ -17,11 +16,11 @@ use Rattle.satp_sides.specs.DueLaws.{IsAnswered}
 use Rattle.satp_sides.specs.Halves.{OriginStands, RecipientStands, half}
 use Rattle.satp_sides.specs.Moves.{SideMoves}
 use Rattle.satp_sides.specs.Moves.SideMoves.{Moves}
-use Rattle.satp_sides.specs.Points.{Move, Party, Side, Slot, Text, chain_in, moved, noted, slot, slot_in, stored, view_in}
+use Rattle.satp_sides.specs.Points.{Party, Side, Slot, Text, chain_in, moved, noted, slot, stored, view_in}
 use Rattle.satp_sides.specs.Points.Move.{Appends, Acts}
 use Rattle.satp_sides.proofs.AnswerLaw.{due-answered}
-use Rattle.satp_world.specs.Sessions.{SessionStands, StandsAt}
-use Rattle.satp_world.specs.Work.{WorkIsDone, WorkMoves}
+use Rattle.satp_world.specs.Sessions.{StandsAt}
+use Rattle.satp_world.specs.Work.{WorkMoves}
 use Rattle.satp_world.specs.Worlds.{Gateway, Reached, Setting, World, name_at, opposite, party_at, session_in, side_at, with_side}
 use Rattle.satp_world.specs.Worlds.Gateway.{A, B}
 use Rattle.satp_world.specs.Worlds.Reached.{Goes}

@@ -1,24 +1,22 @@
 -- One session on both sides: what stands, how it moves, and what always holds.
-use Rattle.std.specs.Prelude.{◌≡◌, ◌≢◌, ◌⊎◌, ℕ, Bool, true, false, List, [], ◌∷◌, ◌++◌, IsTrue, IsFalse, Option, Some, None, ◌==◌}
+use Rattle.std.specs.Prelude.{◌≡◌, ◌≢◌, ◌⊎◌, true, false, List, [], ◌∷◌, ◌++◌, IsTrue, Option, Some, None}
 use Rattle.satp_base.specs.declared.message.Kind.{Kind}
-use Rattle.satp_base.specs.declared.message.Kind.TheVariants.{TransferProposal, CommenceAck, LockAssert, CommitPrepare, CommitReady, CommitFinal, CommitFinalAck, Reject, Rollback, RollbackAck}
+use Rattle.satp_base.specs.declared.message.Kind.TheVariants.{TransferProposal, CommitReady}
 use Rattle.satp_base.specs.declared.message.Role.{Role}
 use Rattle.satp_base.specs.declared.message.Terms.{Terms}
 use Rattle.satp_base.specs.declared.message.Role.TheVariants.{Origin, Recipient}
 use Rattle.satp_base.specs.declared.ledger.LedgerOp.{LedgerOp}
-use Rattle.satp_base.specs.declared.ledger.LedgerOp.TheVariants.{Lock, Mint}
 use Rattle.satp_base.specs.declared.record.Way.{Way}
 use Rattle.satp_base.specs.declared.ledger.Entry.{Entry}
-use Rattle.satp_base.specs.declared.ledger.Entry.TheVariants.{Absent, Locked, Burnt, Minted, Assigned, Released}
+use Rattle.satp_base.specs.declared.ledger.Entry.TheVariants.{Absent, Burnt, Assigned, Released}
 use Rattle.satp_base.specs.declared.ledger.Answer.{Answer}
 use Rattle.satp_base.specs.declared.record.Rec.{Rec}
 use Rattle.satp_base.specs.declared.record.Rec.TheVariants.{Took}
 use Rattle.satp_base.specs.declared.record.Next.TheVariants.{Append, Act}
-use Rattle.satp_base.specs.LedgerRule.{leads, result_of}
-use Rattle.satp_base.specs.Tales.{IsTale, has, is_committed, is_rolled_back, is_whole, maker, other}
+use Rattle.satp_base.specs.Tales.{has, is_committed, is_rolled_back, is_whole, maker, other}
 use Rattle.satp_base.specs.declared.view.View.{View}
-use Rattle.satp_base.specs.Views.{begin, push}
-use Rattle.satp_base.specs.Roles.{both, either, no_way, is_commit, is_back, is_aborted, next_of, After, Other}
+use Rattle.satp_base.specs.Views.{begin}
+use Rattle.satp_base.specs.Roles.{either, no_way, is_commit, is_back, next_of, After, Other}
 use Rattle.satp_sides.specs.Halves.{Agrees, Half, OriginStands, RecipientStands, after_record, half, with_entry}
 use Rattle.satp_sides.specs.Points.{tale_of}
 use Rattle.satp_world.specs.Deal.{Deal, Decision, DealStep, IsFreeAtOrigin, IsFreeAtRecipient, IsFreeOnOne}

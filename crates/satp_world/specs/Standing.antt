@@ -14,7 +14,7 @@ use Rattle.satp_base.specs.declared.view.View.{View}
 use Rattle.satp_sides.specs.LogLaws.{HalfChain}
 use Rattle.satp_sides.specs.Points.{Side, view_in}
 use Rattle.satp_world.specs.Deal.{DealRun, untouched}
-use Rattle.satp_world.specs.Sessions.{Session, SessionStands, deal_of}
+use Rattle.satp_world.specs.Sessions.{Session, SessionStands}
 use Rattle.satp_world.specs.Worlds.{BagStands, DealGoesOn, EntriesStand, Gateway, Reached, Setting, World, WorldMoves, as_deal, name_at, opposite, session_in, side_at, start}
 
 -- ---- one session

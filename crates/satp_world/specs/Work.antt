@@ -1,10 +1,12 @@
 -- Due work in a reached world.
-use Rattle.std.specs.Prelude.{◌≡◌, true, List, Some, None}
+use Rattle.std.specs.Prelude.{◌≡◌, true, List, Option, Some, None}
 use Rattle.satp_base.specs.Founding.{Founding}
+use Rattle.satp_base.specs.declared.message.Message.{Message}
 use Rattle.satp_base.specs.declared.session.SessionId.{SessionId}
-use Rattle.satp_sides.specs.Calls.{Call, IsOfOwn, IsOperators, Run, run_of}
+use Rattle.satp_sides.specs.Calls.{Call, IsHeard, IsOfOwn, IsOperators, Run, run_of}
+use Rattle.satp_sides.specs.Calls.Call.{Hears}
 use Rattle.satp_sides.specs.Due.{due}
-use Rattle.satp_sides.specs.Moves.{AreMoves}
+use Rattle.satp_sides.specs.Moves.{AreMoves, Delivered}
 use Rattle.satp_sides.specs.Points.{Party, Side, Slot, Text, moved_by, slot_in}
 use Rattle.satp_world.specs.Worlds.{Gateway, Reached, Setting, World, party_at, side_at}
 
@@ -30,3 +32,10 @@ abbrev pub OperatorsRunsMove : Type 0
 OperatorsRunsMove =
     (st : Setting) (a b : Founding) (w : World) → Reached st a b w → (g : Gateway) (call : Call) → IsOperators call → IsOfOwn (party_at st g) call
     → RunGoes (party_at st g) (side_at w g) w.bag (run_of (party_at st g) (side_at w g) call)
+
+-- and whatever it hears of the peer
+abbrev pub HeardRunsMove : Type 0
+HeardRunsMove =
+    (st : Setting) (a b : Founding) (w : World) → Reached st a b w → (g : Gateway) (m : Message) (t : Text) (e : Option Message)
+    → IsHeard st.key (Hears m t e) → Delivered st.key w.bag t
+    → RunGoes (party_at st g) (side_at w g) w.bag (run_of (party_at st g) (side_at w g) (Hears m t e))

@@ -1,40 +1,25 @@
 -- Two gateways with records and ledgers, a bag of texts between them that only grows, and the moves of each.
-use Rattle.std.specs.Prelude.{◌≡◌, ◌≢◌, ◌⊎◌, ℕ, ◌+◌, ◌-◌, ◌<◌, ◌≤◌, Bool, true, false, List, [], ◌∷◌, ◌++◌, map, filter, length, drop, slice_get, Option, Some, IsTrue}
-use Rattle.std.specs.List.{flat_map, list_any}
+use Rattle.std.specs.Prelude.{◌≡◌, ◌≢◌, ◌⊎◌, ℕ, ◌+◌, Bool, true, false, List, [], ◌∷◌, ◌++◌, length, slice_get, Some, IsTrue}
+use Rattle.std.specs.List.{list_any}
 use Rattle.std.specs.FinMap as map_of
-use Rattle.std.specs.Ordering.{eq_by_cmp}
-use Rattle.satp_base.specs.Keys.{session_cmp}
 use Rattle.satp_base.specs.Founding.{Founding}
-use Rattle.satp_base.specs.Money.{Book}
-use Rattle.satp_base.specs.LedgerRule.{LedgerRule, entry_of, result_of}
-use Rattle.satp_base.specs.Canonical.{part_kind}
-use Rattle.satp_base.specs.Forms.{IsMessage, IsPart}
+use Rattle.satp_base.specs.LedgerRule.{entry_of}
+use Rattle.satp_base.specs.Forms.{IsMessage}
 use Rattle.satp_base.specs.Signatures.{own}
-use Rattle.satp_base.specs.Chains.{ChainOf, head_of, message_at, next_text, role_at}
+use Rattle.satp_base.specs.Chains.{message_at, role_at}
 use Rattle.satp_base.specs.Tales.{is_whole, kind_eq}
-use Rattle.satp_base.specs.Views.{view_of}
-use Rattle.satp_base.specs.Roles.{After, RoleRule, either, next_of}
+use Rattle.satp_base.specs.Roles.{either}
 use Rattle.satp_base.specs.declared.name.Name.{Name}
 use Rattle.satp_base.specs.declared.session.SessionId.{SessionId}
 use Rattle.satp_base.specs.declared.message.Role.{Role}
 use Rattle.satp_base.specs.declared.message.Role.TheVariants.{Origin, Recipient}
 use Rattle.satp_base.specs.declared.message.Kind.TheVariants.{CommitReady}
-use Rattle.satp_base.specs.declared.message.Terms.{Terms}
 use Rattle.satp_base.specs.declared.message.Link.{Link}
 use Rattle.satp_base.specs.declared.message.Part.{Part}
-use Rattle.satp_base.specs.declared.message.Part.TheVariants.{Proposal}
-use Rattle.satp_base.specs.declared.message.Body.{Body}
-use Rattle.satp_base.specs.declared.message.Body.TheVariants as body
-use Rattle.satp_base.specs.declared.message.Message.{Message}
 use Rattle.satp_base.specs.declared.ledger.LedgerEntry.{LedgerEntry}
-use Rattle.satp_base.specs.declared.ledger.LedgerOp.{LedgerOp}
-use Rattle.satp_base.specs.declared.ledger.LedgerOp.TheVariants.{Lock, Mint}
-use Rattle.satp_base.specs.declared.ledger.Answer.{Answer}
-use Rattle.satp_base.specs.declared.record.Cause.TheVariants.{LockRefused, UnknownAsset, MintCapped, LedgerTaken}
 use Rattle.satp_base.specs.declared.record.Way.TheVariants.{Commit, Back}
 use Rattle.satp_base.specs.declared.record.Rec.{Rec}
-use Rattle.satp_base.specs.declared.record.Rec.TheVariants.{Began, Took, Made, Did, Chose, Rescue}
-use Rattle.satp_base.specs.declared.record.Next.TheVariants.{Act}
+use Rattle.satp_base.specs.declared.record.Rec.TheVariants.{Made, Chose}
 use Rattle.satp_base.specs.declared.view.View.{View}
 use Rattle.satp_sides.specs.LogLaws.{IsChainOf}
 use Rattle.satp_sides.specs.Moves.{Delivered, SideMoves}

@@ -6,7 +6,7 @@
 ghost use Rattle.satp_world.specs.Deal.{LawDeals};
 ghost use Rattle.satp_world.specs.Sessions.{LawSessions, LawStep};
 ghost use Rattle.satp_world.specs.Standing.{BeginningStands, MovesStand, SessionsRun, SessionsRunFromTheFirst};
-ghost use Rattle.satp_world.specs.Work.{OperatorsRunsMove, WorkMoves};
+ghost use Rattle.satp_world.specs.Work.{HeardRunsMove, OperatorsRunsMove, WorkMoves};
 ghost use Rattle.satp_world.specs.Worlds.{LawSafety};
 ghost use Rattle.satp_world.specs.Examples.{LawEndings};
 ghost use Rattle.satp_world.specs.Ledgers.{AfterFits, AgreedIsAnswered, RuleAgrees};
@@ -91,9 +91,11 @@ pub fn law_kept()
 {}
 
 /// In every world that moves of both gateways lead to, the due work of each session that a side's records name is in
-/// order, and its moves are moves: so they lead on to such a world. The same of whatever an operator asks of a gateway:
-/// a start, a work, an abort or a rescue is refused, or its moves are moves and it has an answer.
+/// order, and its moves are moves: so they lead on to such a world. The same of whatever an operator asks of a gateway,
+/// and of whatever it hears of the peer, a message that the bag holds or one that an update carries: the call is refused,
+/// or its moves are moves and it has an answer.
 pub fn law_work()
     ensures due { WorkMoves }
     ensures operators { OperatorsRunsMove }
+    ensures heard { HeardRunsMove }
 {}

@@ -1,4 +1,4 @@
-use Rattle.satp_world.proofs.RunHear.{resent-goes}
+use Rattle.satp_world.proofs.RunHear.{heard-run}
 use Rattle.satp_world.proofs.RunLaw.{operators-run}
 use Rattle.satp_world.proofs.WorkLaw.{work-moves}
 use Rattle.satp_world.proofs.law_work.Goals as goal
@@ -8,3 +8,6 @@ returns-clause-due c = work-moves
 
 pub returns-clause-operators : goal.returns-clause-operators
 returns-clause-operators c = operators-run
+
+pub returns-clause-heard : goal.returns-clause-heard
+returns-clause-heard c = heard-run

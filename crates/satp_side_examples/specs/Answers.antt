@@ -92,7 +92,7 @@ pub record MessagesAgain : Type 0 where
       (key : List ℕ) (book : Book) (terms : Terms) (text : ℕ → Text) → (operation book Assign alpha_1 terms).answer ≡ None
       → beta_hears key (take 9 (beta_records terms text)) book (chain_message 9 (link_of (text 8)) (Plain CommitFinal)) (text 9)
       ≡ record { answer = None; moves = Appends (stored alpha_1 (Took CommitFinal) (text 9)) ∷ Acts alpha_1 Assign terms ∷ [] }
-  -- after a stop behind the first record
+  -- after a stop that left the first record alone
   pub after_a_stop :
       (key : List ℕ) (book : Book) (terms : Terms) (text : ℕ → Text) (previous : Link) → (operation book Assign alpha_1 terms).answer ≡ Some Done
       → beta_hears key (take 10 (beta_records terms text)) book (chain_message 9 previous (Plain CommitFinal)) (text 9)

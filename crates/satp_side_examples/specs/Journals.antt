@@ -46,13 +46,13 @@ pub record GoesOn (p : Party) (before : List Stored) (s : SessionId) (role : Rol
   pub said : part_kind part ≡ kind
   pub text : t ≡ next_text s (recipient_at p role) p.key (chain_in s before) part
 
-abbrev pub Says : Party → List Stored → SessionId → Rec → Kind → Text → Type 0
-Says p before s r kind t = (h : MayGoOn p before s r) × GoesOn p before s h.view.role kind t
+abbrev pub SaysNext : Party → List Stored → SessionId → Rec → Kind → Text → Type 0
+SaysNext p before s r kind t = (h : MayGoOn p before s r) × GoesOn p before s h.view.role kind t
 
 abbrev pub ByRecord : Party → List Stored → SessionId → Rec → Text → Type 0
 ByRecord p before s (Began role terms) t = MayBegin p before s role terms t
-ByRecord p before s (Took kind) t = Says p before s (Took kind) kind t
-ByRecord p before s (Made kind) t = Says p before s (Made kind) kind t
+ByRecord p before s (Took kind) t = SaysNext p before s (Took kind) kind t
+ByRecord p before s (Made kind) t = SaysNext p before s (Made kind) kind t
 ByRecord p before s (Did op) t = MayGoOn p before s (Did op) × (t ≡ [])
 ByRecord p before s (Chose way) t = MayGoOn p before s (Chose way) × (t ≡ [])
 ByRecord p before s Rescue t = MayGoOn p before s Rescue × (t ≡ [])

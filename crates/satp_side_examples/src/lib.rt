@@ -8,7 +8,7 @@ ghost use Rattle.satp_side_examples.specs.Ends.{AbortsAsked, Beginnings, WorkAsk
 ghost use Rattle.satp_side_examples.specs.Journals.{JournalsOfASession, RecordsCaseByCase, RecordsThatMayNotCome};
 ghost use Rattle.satp_side_examples.specs.Moving.{EntriesRead, MovesMade, TextsThatAreSaid, TextsThatCome};
 ghost use Rattle.satp_side_examples.specs.Recovery.{LostMessages, RoundsAnswered, RoundsStarted, SuccessesHeard, UpdatesHeard};
-ghost use Rattle.satp_side_examples.specs.Tested.{LogsNameSessions, RunsAreAnswered};
+ghost use Rattle.satp_side_examples.specs.Tested.{DueIsStored, LogsNameSessions, RunsAreAnswered};
 ghost use Rattle.satp_side_examples.specs.Work.{LocksAndBurns, Mints};
 
 /// Messages of a chain: the first ones of a session, who may say what to whom, and one that comes again.
@@ -56,8 +56,9 @@ pub fn law_moving()
     ensures moves { MovesMade }
 {}
 
-/// A session that isn't named has no record, and a call that no test refuses is answered or asks the ledger.
+/// A session that isn't named has no record, a call that no test refuses is answered or asks the ledger, and due work keeps a log.
 pub fn law_tested()
     ensures named { LogsNameSessions }
     ensures answered { RunsAreAnswered }
+    ensures stored { DueIsStored }
 {}

@@ -1,5 +1,6 @@
-use Rattle.satp_side_examples.proofs.Named.{logs-name}
 use Rattle.satp_side_examples.proofs.Answered.{answered}
+use Rattle.satp_side_examples.proofs.Named.{logs-name}
+use Rattle.satp_side_examples.proofs.Stored.{due-stored}
 use Rattle.satp_side_examples.proofs.law_tested.Goals as goal
 
 pub returns-clause-named : goal.returns-clause-named
@@ -7,3 +8,6 @@ returns-clause-named c = logs-name
 
 pub returns-clause-answered : goal.returns-clause-answered
 returns-clause-answered c = answered
+
+pub returns-clause-stored : goal.returns-clause-stored
+returns-clause-stored c = due-stored

@@ -5,3 +5,5 @@ pub mod Inputs
 pub mod Lines
 pub mod Genesis
 pub mod SetUpEnds
+pub mod OneEnd
+pub mod OneReply

@@ -7,12 +7,14 @@
 mod answer_command;
 mod check_command;
 mod init_command;
+mod laws;
 mod outcome;
 mod reply;
 mod report;
 mod streams;
 mod top;
 
+pub use laws::law_one_end;
 pub use outcome::{Outcome, Refusal};
 pub use reply::Reply;
 pub use top::run;

@@ -6,3 +6,5 @@ pub mod Inputs
 pub mod Lines
 pub mod Genesis
 pub mod SetUpEnds
+pub mod OneEnd
+pub mod OneReply

@@ -7,3 +7,4 @@ pub mod Check
 pub mod Init
 pub mod Commands
 pub mod Arguments
+pub mod OneEnd

@@ -1,5 +1,7 @@
 //! Set-ups of a gateway, and how each ends. No function here says what it does, so that the proofs of the tests carry no clause of `run`.
 
+ghost use Rattle.std.specs.Prelude.{◌≡◌, false};
+
 use satp_accounts::Accounts;
 use satp_app::run;
 use satp_base::{Area, Disk, Genesis, LedgerCore, LedgerKind, Memory, Name, Text, Texts};
@@ -142,7 +144,11 @@ fn run_over(
     input: &mut MemSource,
     out: &mut MemSink,
     err: &mut MemSink,
-) -> End {
+) -> End
+    requires over { input.old.over ≡ false }
+    requires out_failed { out.old.failed ≡ false }
+    requires err_failed { err.old.failed ≡ false }
+{
     let status = run(alloc, words, site, input, out, err);
     end_of(status, out.bytes(), err.bytes())
 }

@@ -158,30 +158,34 @@ module _ (p : Party) (s : SessionId) (xs : List Stored) (old : State) (key : Lis
       let (kind, c, has) = carried old.chain key r text signed m in
       let t : text ≡ signed.text = has.3.2 in
       let same = has.3.0 in
-      let own-text : signed.text ≡ own key signed.message = ap (λ (x : Signed). x.text) same ∙ sym (ap (λ (x : Signed). own key x.message) same) in
-      (may p xs s text r (message-comes r text signed rule m), record {
-        slot = slot-from (view_in s (xs ++ stored s r text ∷ [])) (chain_in s (xs ++ stored s r text ∷ [])) (push old.view r) (texts_in (pushed old.chain signed))
-            (view-here s xs (stored s r text) old.view (session-self s) parts.0)
-            (one-text s xs kind r text c ∙ ap₂ (λ (ts : List Text) (u : Text). ts ++ u ∷ []) parts.1 t ∙ sym (text-pushed old.chain signed));
-        session = h.session;
-        recipient = recipient-kept r;
-        chain = subst (IsChain (pushed old.chain signed)) (sym e) (chained key (subst (IsChain old.chain) e h.chain) own-text);
-        sound = sound;
-      })
+      let own-text : signed.text ≡ own key signed.message = ap (λ (x : Signed). x.text) same ∙ sym (ap (λ (x : Signed). own key x.message) same) in (
+        may p xs s text r (message-comes r text signed rule m),
+        record {
+          slot = slot-from (view_in s (xs ++ stored s r text ∷ [])) (chain_in s (xs ++ stored s r text ∷ [])) (push old.view r) (texts_in (pushed old.chain signed))
+              (view-here s xs (stored s r text) old.view (session-self s) parts.0)
+              (one-text s xs kind r text c ∙ ap₂ (λ (ts : List Text) (u : Text). ts ++ u ∷ []) parts.1 t ∙ sym (text-pushed old.chain signed));
+          session = h.session;
+          recipient = recipient-kept r;
+          chain = subst (IsChain (pushed old.chain signed)) (sym e) (chained key (subst (IsChain old.chain) e h.chain) own-text);
+          sound = sound;
+        },
+      )
 
   pub add-note : (r : Rec) (text : Text) → RoleRule old.view.role old.view r → HasMessage old.chain key r text None → IsSound (push old.view r) old.chain
       → MayCome p xs (stored s r text) × IsStateOf p s (xs ++ stored s r text ∷ []) (record { view = push old.view r; chain = old.chain })
   add-note r text rule m sound =
-      let (n, t) = is-noted old.chain key r text m in
-      (may p xs s text r (note-comes r text rule n t), record {
-        slot = slot-from (view_in s (xs ++ stored s r text ∷ [])) (chain_in s (xs ++ stored s r text ∷ [])) (push old.view r) (texts_in old.chain)
-            (view-here s xs (stored s r text) old.view (session-self s) parts.0)
-            (no-text s xs r text n ∙ parts.1);
-        session = h.session;
-        recipient = recipient-kept r;
-        chain = h.chain;
-        sound = sound;
-      })
+      let (n, t) = is-noted old.chain key r text m in (
+        may p xs s text r (note-comes r text rule n t),
+        record {
+          slot = slot-from (view_in s (xs ++ stored s r text ∷ [])) (chain_in s (xs ++ stored s r text ∷ [])) (push old.view r) (texts_in old.chain)
+              (view-here s xs (stored s r text) old.view (session-self s) parts.0)
+              (no-text s xs r text n ∙ parts.1);
+          session = h.session;
+          recipient = recipient-kept r;
+          chain = h.chain;
+          sound = sound;
+        },
+      )
 
   rule-of : (r : Rec) (v : View) → view_in s xs ≡ Some v → RoleRule v.role v r → RoleRule old.view.role old.view r
   rule-of r v named rule = subst (λ (w : View). RoleRule w.role w r) (some-is v old.view (sym named ∙ parts.0)) rule
@@ -300,16 +304,18 @@ module _ (p : Party) (s : SessionId) (xs : List Stored) (new : records_of s xs �
       let chain : Chained = record { session = s; recipient = recipient; kept = [] } in
       let own-text : signed.text ≡ own p.key signed.message = ap (λ (x : Signed). x.text) h.0 ∙ sym (ap (λ (x : Signed). own p.key x.message) h.0) in
       let t : text ≡ signed.text = h.2 in
-      let is = t ∙ ap (λ (x : Signed). x.text) h.0 ∙ ap (λ x. next_text s x p.key [] (part.Proposal terms)) same in
-      (may p xs s text (Began role terms) (record { whose = whose; new = new; room = room; text_is = is }), record {
-        slot = slot-from (view_in s (xs ++ stored s (Began role terms) text ∷ [])) (chain_in s (xs ++ stored s (Began role terms) text ∷ [])) (begin role terms) (texts_in (pushed chain signed))
-            (view-first s xs (stored s (Began role terms) text) (session-self s) new)
-            (chain-here s xs (stored s (Began role terms) text) (session-self s) ∙ ap₂ (λ (ts : List Text) (u : Text). ts ++ u ∷ []) (chain-none s xs new) t);
-        session = refl;
-        recipient = same;
-        chain = chained p.key (first-chain s recipient p.key) own-text;
-        sound = first-sound role terms chain p.key signed text refl h;
-      })
+      let is = t ∙ ap (λ (x : Signed). x.text) h.0 ∙ ap (λ x. next_text s x p.key [] (part.Proposal terms)) same in (
+        may p xs s text (Began role terms) (record { whose = whose; new = new; room = room; text_is = is }),
+        record {
+          slot = slot-from (view_in s (xs ++ stored s (Began role terms) text ∷ [])) (chain_in s (xs ++ stored s (Began role terms) text ∷ [])) (begin role terms) (texts_in (pushed chain signed))
+              (view-first s xs (stored s (Began role terms) text) (session-self s) new)
+              (chain-here s xs (stored s (Began role terms) text) (session-self s) ∙ ap₂ (λ (ts : List Text) (u : Text). ts ++ u ∷ []) (chain-none s xs new) t);
+          session = refl;
+          recipient = same;
+          chain = chained p.key (first-chain s recipient p.key) own-text;
+          sound = first-sound role terms chain p.key signed text refl h;
+        },
+      )
 
   pub begin-state : (r : Rec) (role : Role) (terms : Terms) (text : Text) (recipient : Name) (key : List ℕ) (chain new-chain : Chained) (view : View) (signed : Signed) → r ≡ Began role terms → HasRoom r xs → IsOfRole p s role
       → recipient ≡ recipient_at p role → p.key ≡ key → chain ≡ record { session = s; recipient = recipient; kept = [] } → HasText chain key (part.Proposal terms) text (Some signed)
@@ -320,13 +326,15 @@ module _ (p : Party) (s : SessionId) (xs : List Stored) (new : records_of s xs �
       let empty : Chained = record { session = s; recipient = recipient; kept = [] } in
       let h' = subst (λ y. HasText empty y (part.Proposal terms) text (Some signed)) (sym k) (subst (λ ch. HasText ch key (part.Proposal terms) text (Some signed)) is h) in
       let chained' : (y : List ℕ) → IsChain empty y → signed.text ≡ own y signed.message → IsChain (pushed empty signed) y =
-          subst (λ ch. (y : List ℕ) → IsChain ch y → signed.text ≡ own y signed.message → IsChain (pushed ch signed) y) is
-          (subst (λ nc. (y : List ℕ) → IsChain chain y → signed.text ≡ own y signed.message → IsChain nc y) more chained) in
+      subst (λ ch. (y : List ℕ) → IsChain ch y → signed.text ≡ own y signed.message → IsChain (pushed ch signed) y) is
+      (subst (λ nc. (y : List ℕ) → IsChain chain y → signed.text ≡ own y signed.message → IsChain nc y) more chained) in
       let room' : begun role xs < most_sessions = subst (λ x. HasRoom x xs) e room in
       let all = first-state role terms text recipient signed whose room' same h' chained' in
-      subst (λ x. MayCome p xs (stored s x text) × IsStateOf p s (xs ++ stored s x text ∷ []) (record { view = view; chain = new-chain })) (sym e)
-      (all.0, subst (λ nc. IsStateOf p s (xs ++ stored s (Began role terms) text ∷ []) (record { view = view; chain = nc })) (ap (λ ch. pushed ch signed) (sym is) ∙ sym more)
-      (subst (λ w. IsStateOf p s (xs ++ stored s (Began role terms) text ∷ []) (record { view = w; chain = pushed empty signed })) (sym v) all.1))
+      subst (λ x. MayCome p xs (stored s x text) × IsStateOf p s (xs ++ stored s x text ∷ []) (record { view = view; chain = new-chain })) (sym e) (
+        all.0,
+        subst (λ nc. IsStateOf p s (xs ++ stored s (Began role terms) text ∷ []) (record { view = view; chain = nc })) (ap (λ ch. pushed ch signed) (sym is) ∙ sym more)
+            (subst (λ w. IsStateOf p s (xs ++ stored s (Began role terms) text ∷ []) (record { view = w; chain = pushed empty signed })) (sym v) all.1),
+      )
 
 -- ---- answers
 
@@ -346,9 +354,11 @@ module _ (p : Party) (s : SessionId) (xs : List Stored) (now old : State) (key :
       → AddAnswers p s xs now r text (record { view = view; chain = chain }) (Ok tt)
   with-message r text signed view chain rule m sound v c chained =
       let all = add-message p s xs old key e there r text signed rule m (sound-message old.view old.chain key r text signed sound rule m)
-          (subst (λ nc. (k : List ℕ) → IsChain old.chain k → signed.text ≡ own k signed.message → IsChain nc k) c chained) in
-      (all.0, subst (λ w. IsStateOf p s (xs ++ stored s r text ∷ []) (record { view = w; chain = chain })) (sym v)
-      (subst (λ ch. IsStateOf p s (xs ++ stored s r text ∷ []) (record { view = push old.view r; chain = ch })) (sym c) all.1))
+      (subst (λ nc. (k : List ℕ) → IsChain old.chain k → signed.text ≡ own k signed.message → IsChain nc k) c chained) in (
+        all.0,
+        subst (λ w. IsStateOf p s (xs ++ stored s r text ∷ []) (record { view = w; chain = chain })) (sym v)
+            (subst (λ ch. IsStateOf p s (xs ++ stored s r text ∷ []) (record { view = push old.view r; chain = ch })) (sym c) all.1),
+      )
 
   pub without-message : (r : Rec) (text : Text) (view : View) → RoleRule old.view.role old.view r → HasMessage old.chain key r text None → IsSound old.view old.chain → view ≡ push old.view r
       → AddAnswers p s xs now r text (record { view = view; chain = old.chain }) (Ok tt)

@@ -101,9 +101,10 @@ same-setup s t e = ap (λ j. setup-in j s) e
 
 pub one-journal : OneJournal
 one-journal payloads setup other xs ys a b =
-    let both = heads (payload_of (journaled.Setup setup)) (payload_of (journaled.Setup other)) (map payload_in xs) (map payload_in ys) (sym a.list ∙ b.list) in
-    (same-setup setup other (one_record (journaled.Setup setup) (journaled.Setup other) a.formed b.formed both.0),
-    one-list xs ys (all-stored (party_of setup) xs a.log) (all-stored (party_of other) ys b.log) both.1)
+    let both = heads (payload_of (journaled.Setup setup)) (payload_of (journaled.Setup other)) (map payload_in xs) (map payload_in ys) (sym a.list ∙ b.list) in (
+      same-setup setup other (one_record (journaled.Setup setup) (journaled.Setup other) a.formed b.formed both.0),
+      one-list xs ys (all-stored (party_of setup) xs a.log) (all-stored (party_of other) ys b.log) both.1,
+    )
 
 -- ---- first payloads
 

@@ -1,4 +1,3 @@
 pub mod Hearing
 pub mod Folding
 pub mod Journals
-pub mod Logged

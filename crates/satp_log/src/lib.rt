@@ -4,11 +4,9 @@
 mod fault;
 mod hearing;
 mod laws;
-
 mod state;
 
-pub use fault::{LogFault, Misfit, Unheard};
+pub use fault::{Misfit, Unheard};
 pub use hearing::hear;
 pub use laws::law_journals;
-
 pub use state::SessionState;

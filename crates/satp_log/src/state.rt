@@ -69,13 +69,7 @@ impl SessionState {
     /// One record more.
     ///
     /// `Refused` comes exactly where it may not come: the role's rule doesn't allow it, or its text isn't the chain's next with its kind. It leaves the state as it was, and so does want of memory.
-    pub fn add(
-        &mut self,
-        alloc: Global,
-        key: &Key,
-        rec: &Rec,
-        text: &[u8],
-    ) -> Result<(), Misfit>
+    pub fn add(&mut self, alloc: Global, key: &Key, rec: &Rec, text: &[u8]) -> Result<(), Misfit>
         ensures { (p : Party) (s : SessionId) (xs : List Stored) → p.key ≡ key.now → IsStateOf p s xs self.old → AddAnswers p s xs self.old rec.now text.now self.new result }
     {
         if !allows(&self.view, rec) {

@@ -40,9 +40,11 @@ returns-in-Err-read-clause-complete c = λ m o.
 
 pub returns-in-Ok-copy-clause-own : goal.returns-in-Ok-copy-clause-own
 returns-in-Ok-copy-clause-own c =
-    let found = c.in-Ok-read.ensures.found in
-    (own_is c.args.key.now c.args.text.now c.in-Ok.verified.header c.in-Ok.verified.payload c.in-Ok-read.message c.in-Ok.ensures.signed.1
-    (sym c.bytes.ensures ∙ is_header c.bytes.result.now (sym c.is_own_header.ensures ∙ c.if-not-is_own_header.false)) found.0 (sym c.bytes-2.ensures ∙ found.1), c.in-Ok-copy.ensures)
+    let found = c.in-Ok-read.ensures.found in (
+      own_is c.args.key.now c.args.text.now c.in-Ok.verified.header c.in-Ok.verified.payload c.in-Ok-read.message c.in-Ok.ensures.signed.1
+          (sym c.bytes.ensures ∙ is_header c.bytes.result.now (sym c.is_own_header.ensures ∙ c.if-not-is_own_header.false)) found.0 (sym c.bytes-2.ensures ∙ found.1),
+      c.in-Ok-copy.ensures,
+    )
 
 pub returns-in-Ok-copy-clause-first : goal.returns-in-Ok-copy-clause-first
 returns-in-Ok-copy-clause-first c =

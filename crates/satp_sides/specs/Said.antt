@@ -1,5 +1,5 @@
 -- What was said, told by the records: it stands in a chain, or says what the first messages of one were.
-use Rattle.std.specs.Prelude.{◌≡◌, ℕ, ◌+◌, ◌≤◌, List, ◌++◌, length, slice_get, take, Some}
+use Rattle.std.specs.Prelude.{◌≡◌, ℕ, ◌+◌, ◌≤◌, List, [], ◌++◌, length, slice_get, take, Some}
 use Rattle.satp_base.specs.Chains.{head_of, role_at}
 use Rattle.satp_base.specs.Forms.{IsMessage}
 use Rattle.satp_base.specs.Signatures.{own}
@@ -18,12 +18,13 @@ RecoverySays texts (body.Recover n last) = (n ≡ length texts) × (last ≡ (he
 RecoverySays texts (body.Update n entries) = (n ≡ length texts) × (entries ≡ last_texts (length entries) texts)
 RecoverySays texts (body.Success n last) = (n ≡ length texts) × (last ≡ (head_of texts).last)
 
--- The text is the gateway's own and stands in its chain of a session, or it is its recovery message of the first texts of such a chain: of none of them
--- it is the answer on a session that it knows nothing of.
+-- The text is the gateway's own and stands in its chain of a session; or it is its recovery message of the first texts of such a chain, one at least; or
+-- it says that the gateway knows nothing of a session of its peer.
 pub data WasSaid (p : Party) (xs : List Stored) (t : Text) : Type 0 where
   Of_chain : (s : SessionId) (v : View) (n : ℕ) → view_in s xs ≡ Some v → slice_get (chain_in s xs) n ≡ Some t → role_at (n + 1) ≡ v.role → WasSaid p xs t
-  Of_recovery : (s : SessionId) (b : Body) (n : ℕ) → n ≤ length (chain_in s xs) → IsMessage (message_from p s b)
+  Of_recovery : (s : SessionId) (b : Body) (n : ℕ) → 1 ≤ n → n ≤ length (chain_in s xs) → IsMessage (message_from p s b)
       → RecoverySays (take n (chain_in s xs)) b → t ≡ own p.key (message_from p s b) → WasSaid p xs t
+  Of_nothing : (s : SessionId) → s.gateway ≡ p.peer → IsMessage (message_from p s (body.Update 0 [])) → t ≡ own p.key (message_from p s (body.Update 0 [])) → WasSaid p xs t
 
 -- what may be said was said from then on, and later records keep it
 abbrev pub SaidIsKept : Type 0

@@ -32,7 +32,7 @@ use Rattle.satp_sides.specs.Moves.Among.{first, later}
 use Rattle.satp_sides.specs.Moves.Delivered.{Alone, Listed}
 use Rattle.satp_sides.specs.Moves.Sayable.{Knows_none}
 use Rattle.satp_sides.specs.Said.{RecoverySays, WasSaid}
-use Rattle.satp_sides.specs.Said.WasSaid.{Of_chain, Of_recovery}
+use Rattle.satp_sides.specs.Said.WasSaid.{Of_chain, Of_nothing, Of_recovery}
 use Rattle.satp_recovery.specs.Rounds.{Answers, Takes as TakesCases, answer_of, take_of}
 use Rattle.satp_recovery.specs.Rounds.Answers.{Apart as Answered_apart, OneMore, AsMany, OneFewer, OtherLast, OtherBefore}
 use Rattle.satp_recovery.specs.Rounds.Takes.{Apart as Takes_apart, Adopts, AsMany as Takes_as_many, Resends, NoneCame, TooMany, NoneWanted}
@@ -206,7 +206,12 @@ module _ (st : Setting) (a b : Founding) (w : World) (r : Reached st a b w) wher
     where
       by : (g : Gateway) → WasSaid (party_at st g) (side_at w g).records (own st.key m) → IsChains c.body
       by g (Of_chain s v k e d role) = absurd (subst IsChains is (chain-text g s v e k (own st.key m) d m f refl))
-      by g (Of_recovery s bd k le fm says eq) =
+      by g (Of_nothing s known fm eq) =
+          let same : message_from (party_at st g) s (body.Update 0 []) ≡ m = own_shows st.key st.key (message_from (party_at st g) s (body.Update 0 [])) m fm f (sym eq) in
+          let bodies : body.Update 0 [] ≡ body.Update n entries = ap (λ (y : Message). y.body) same ∙ is in
+          let none : entries ≡ [] = cc in
+          absurd (nothing-among t entries none j)
+      by g (Of_recovery s bd k some le fm says eq) =
           let same : message_from (party_at st g) s bd ≡ m = own_shows st.key st.key (message_from (party_at st g) s bd) m fm f (sym eq) in
           let bodies : bd ≡ body.Update n entries = ap (λ (y : Message). y.body) same ∙ is in
           let last = (subst (RecoverySays (take k (chain_in s (side_at w g).records))) bodies says).1 in

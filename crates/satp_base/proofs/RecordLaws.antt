@@ -1,20 +1,24 @@
--- What the rule says of rescues and of answers, as functions.
-use Rattle.std.proofs.Common.{◌≡◌, Bool, true, false, IsTrue, List, [], ◌∷◌, Option, Some, None, refl, ap, subst, sym, ◌∙◌, ◌↔◌}
+-- What the rule says of answers, rescues and aborts, as functions.
+use Rattle.std.proofs.Common.{◌≡◌, Bool, true, false, IsTrue, List, [], ◌∷◌, Option, Some, None, Result, Ok, Err, if◌then◌else◌, refl, ap, subst, sym, ◌∙◌, ◌↔◌}
 use Rattle.satp_base.specs.declared.message.Role.{Role}
 use Rattle.satp_base.specs.declared.message.Role.TheVariants.{Origin, Recipient}
 use Rattle.satp_base.specs.declared.ledger.LedgerOp.{LedgerOp}
 use Rattle.satp_base.specs.declared.ledger.LedgerOp.TheVariants.{Lock, Burn, Mint, Assign, Release}
 use Rattle.satp_base.specs.declared.ledger.Answer.{Answer}
 use Rattle.satp_base.specs.declared.ledger.Answer.TheVariants as answer
+use Rattle.satp_base.specs.declared.message.Kind.TheVariants.{Rollback}
+use Rattle.satp_base.specs.declared.record.Cause.TheVariants.{Aborted}
+use Rattle.satp_base.specs.declared.record.Way.TheVariants.{Back}
+use Rattle.satp_base.specs.declared.record.TooLate.{TooLate}
 use Rattle.satp_base.specs.declared.record.Rec.{Rec}
-use Rattle.satp_base.specs.declared.record.Rec.TheVariants.{Rescue}
+use Rattle.satp_base.specs.declared.record.Rec.TheVariants.{Chose, Rescue}
 use Rattle.satp_base.specs.declared.record.Next.{Next}
 use Rattle.satp_base.specs.declared.record.Next.TheVariants.{Append}
 use Rattle.satp_base.specs.declared.view.View.{View}
 use Rattle.satp_base.specs.Acts.{MayAnswer}
-use Rattle.satp_base.specs.Roles.{After, Other, RoleRule, after_of, both, negate, next_of, no_way, rescues}
+use Rattle.satp_base.specs.Roles.{After, Other, RoleRule, abort_of, after_of, both, either, is_back, is_late, negate, next_of, no_way, rescues}
 use Rattle.satp_base.specs.Roles.RoleRule.{Due, Answered, Free}
-use Rattle.satp_base.specs.Tales.{is_whole}
+use Rattle.satp_base.specs.Tales.{has, is_whole}
 use Rattle.satp_base.proofs.RoleLemmas.{role-gives}
 
 -- ---- answers
@@ -72,3 +76,22 @@ allowed-rescue role v (Due e) = absurd (never_due role v e)
 allowed-rescue role v (Answered op a e x) = absurd (not_answered op a x)
 allowed-rescue Origin v (Free o) = three_all _ _ _ o.0 o.1 o.2
 allowed-rescue Recipient v (Free o) = absurd o
+
+-- ---- aborts
+
+-- what the views are like in which an abort gives a record
+pub record GivesAnAbort (role : Role) (v : View) (r : Rec) : Type 0 where
+  pub in_time : is_late role v ≡ false
+  pub no_way_back : is_back v.way ≡ false
+  pub no_rollback : has Rollback v.tale ≡ false
+  pub record_is : r ≡ Chose (Back Aborted)
+
+given : (late back rollback : Bool) (fault : TooLate) (r : Rec) → (if late then Err fault else if either back rollback then Ok None else Ok (Some (Chose (Back Aborted)))) ≡ Ok (Some r)
+    → (late ≡ false) × (back ≡ false) × (rollback ≡ false) × (r ≡ Chose (Back Aborted))
+given true back rollback fault r e = absurd (cc e)
+given false true rollback fault r e = absurd (cc e)
+given false false true fault r e = absurd (cc e)
+given false false false fault r e = (refl, refl, refl, cc (sym e))
+
+pub gives-abort : (role : Role) (v : View) (r : Rec) → abort_of role v ≡ Ok (Some r) → GivesAnAbort role v r
+gives-abort role v r e = let g = given (is_late role v) (is_back v.way) (has Rollback v.tale) _ r e in record { in_time = g.0; no_way_back = g.1; no_rollback = g.2; record_is = g.3 }

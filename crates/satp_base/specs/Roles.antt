@@ -1,6 +1,8 @@
 -- What each side does next, and which record may come.
 use Rattle.std.specs.Prelude.{◌≡◌, ◌↔◌, Bool, true, false, IsTrue, IsFalse, ℕ, List, [], ◌∷◌, ◌++◌, Option, Some, None, Result, Ok, Err, if◌then◌else◌}
 use Rattle.satp_base.specs.declared.message.Kind.TheVariants.{TransferProposal, ProposalReceipt, TransferCommence, CommenceAck, LockAssert, LockReceipt, CommitPrepare, CommitReady, CommitFinal, CommitFinalAck, TransferComplete, Reject, Rollback, RollbackAck}
+use Rattle.satp_base.specs.declared.message.Reason.{Reason}
+use Rattle.satp_base.specs.declared.message.Reason.TheVariants as reason
 use Rattle.satp_base.specs.declared.message.Role.{Role}
 use Rattle.satp_base.specs.declared.message.Role.TheVariants.{Origin, Recipient}
 use Rattle.satp_base.specs.declared.message.Terms.{Terms}
@@ -19,6 +21,7 @@ use Rattle.satp_base.specs.declared.record.Next.{Next}
 use Rattle.satp_base.specs.declared.record.Next.TheVariants.{Append, Act, Wait, Ended}
 use Rattle.satp_base.specs.declared.view.View.{View}
 use Rattle.satp_base.specs.Acts.{MayAnswer}
+use Rattle.satp_base.specs.Chains.{reason_of}
 use Rattle.satp_base.specs.Tales.{IsTale, has, last_is, last_by, is_whole, maker, other}
 use Rattle.satp_base.specs.Views.{KeepsTale, begin, push, view_from}
 
@@ -212,3 +215,19 @@ AnswersGiveRecords = (op : LedgerOp) (a : Answer) (r : Rec) → After op a r ↔
 -- a rescue may come exactly where the side may enter a recovery round
 abbrev pub RescuesAsRuled : Type 0
 RescuesAsRuled = (role : Role) (v : View) → IsTrue (rescues role v) ↔ RoleRule role v Rescue
+
+-- in a view that is reached the record that an abort gives may come
+abbrev pub LawAborts : Role → Type 0
+LawAborts role = (v : View) (r : Rec) → IsReached role v → abort_of role v ≡ Ok (Some r) → RoleRule role v r
+
+-- the reason is the cause by its name
+abbrev pub IsReason : Cause → Reason → Type 0
+IsReason Aborted reason.Aborted = Unit {0}
+IsReason UnknownAsset reason.UnknownAsset = Unit {0}
+IsReason MintCapped reason.MintCapped = Unit {0}
+IsReason LedgerTaken reason.LedgerTaken = Unit {0}
+IsReason _ _ = ⊥
+
+-- A recipient decides nothing but to turn back, and the reason that its reject names is why.
+abbrev pub LawReasons : Type 0
+LawReasons = (v : View) (way : Way) → IsReached Recipient v → v.way ≡ Some way → (cause : Cause) × (way ≡ Back cause) × IsReason cause (reason_of (Some way))

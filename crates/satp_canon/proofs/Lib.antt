@@ -11,3 +11,4 @@ pub mod NoFault
 pub mod WrittenText
 pub mod ReadFaults
 pub mod TextFaults
+pub mod FirstNames

@@ -1,8 +1,9 @@
 -- The first fault of bytes that are to be a canonical text, over the JSON value that `serde_json` reads from them.
-use Rattle.std.specs.Prelude.{ℕ, ◌+◌, ◌&&◌, ◌==◌, Bool, false, not, List, [], ◌∷◌, ◌++◌, length, map, filter, fold, codes, nat_le, nat_lt, if◌then◌else◌, Option, Some, None, Result, Ok, Err, is_some, is_none, flat_map, option_and_then, option_map}
-use Rattle.std.specs.List.{list_all, list_any}
+use Rattle.std.specs.Prelude.{◌≡◌, ◌≢◌, ◌↔◌, ℕ, ◌+◌, ◌&&◌, ◌==◌, Bool, false, not, List, [], ◌∷◌, ◌++◌, length, map, filter, fold, codes, nat_le, nat_lt, if◌then◌else◌, Option, Some, None, Result, Ok, Err, is_some, is_none, flat_map, option_and_then, option_map}
+use Rattle.std.specs.List.{AllByRecursion, list_all, list_any}
 use Rattle.std.specs.Option.{option_map_or}
 use Rattle.std.specs.Ordering.{nat_cmp, match_ordering}
+use Rattle.std.specs.declared.cmp.Ordering.TheVariants.{Greater}
 use Rattle.std.specs.Cmp.Lexicographic.{slice_cmp}
 use Rattle.std.specs.Str.{bytes_eq, is_utf8}
 use Rattle.base64.specs.Engines.{url_safe_no_pad}
@@ -56,6 +57,19 @@ least_yet (Some yet) text = Some (lesser yet text)
 
 abbrev pub least : List (List ℕ) → Option (List ℕ)
 least texts = fold least_yet None texts
+
+-- a doesn't stand after b in byte order
+abbrev pub IsUpTo : List ℕ → List ℕ → Type 0
+IsUpTo a b = slice_cmp nat_cmp a b ≢ Greater
+
+-- the text stands in the list, and after none of it in byte order
+pub record IsFirstOf (texts : List (List ℕ)) (text : List ℕ) : Type 0 where
+  pub stands : (before : List (List ℕ)) × (after : List (List ℕ)) × (texts ≡ before ++ text ∷ after)
+  pub least : AllByRecursion (IsUpTo text) texts
+
+-- what is found is the first of the list, and nothing where there is none
+abbrev pub FindsTheFirst : Type 0
+FindsTheFirst = (texts : List (List ℕ)) (text : List ℕ) → (least texts ≡ Some text) ↔ IsFirstOf texts text
 
 abbrev pub member_fault : List MemberName → Data → Option CanonFault
 member_fault names d = option_map (λ text. fault.Member (member_named text)) (least (odd_names names d))

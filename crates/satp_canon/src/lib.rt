@@ -18,7 +18,7 @@ mod values;
 mod writer;
 
 pub use fault::CanonFault;
-pub use laws::law_written;
+pub use laws::{law_first_name, law_written};
 pub use link::{link_of, link_read, link_text};
 pub use reader::read;
 pub use satp_base::MemberName;

@@ -29,6 +29,8 @@ pub fn read(alloc: Global, text: &[u8]) -> Result<Message, CanonFault>
         (λ f. (f ≡ Memory) ⊎ (first_fault text.now ≡ Some f)) }
     ensures complete { (m : Message) → IsMessage m → IsText m text.now → length text.now ≤ 8192
         → MatchResult result (λ found. found ≡ m) (λ f. f ≡ Memory) }
+    // want of memory hides no text that is too long
+    ensures memory { result ≡ Err Memory → length text.now ≤ 8192 }
     // the text that it is compared with is that of the message in it
     ensures canonical { (at : ℕ) → result ≡ Err (CanonFault.NotCanonical at) → DiffersAt text.now at }
 {

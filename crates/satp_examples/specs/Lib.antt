@@ -33,3 +33,5 @@ pub mod MemoryDisks
 pub mod LedgerRecords
 pub mod Runs
 pub mod RealSites
+pub mod Choices
+pub mod Verdicts

@@ -9,7 +9,7 @@ use Rattle.httparse.proofs.PieceLemmas.{Blank_deterministic, Never_elim}
 use Rattle.httparse.proofs.ReadLemmas.{SectionOfAtMost_overflow}
 use Rattle.satp_http.specs.declared.fault.HttpFault.{HttpFault}
 use Rattle.satp_http.specs.declared.fault.HttpFault.TheVariants as fault
-use Rattle.satp_http.specs.Heads.{Sender, client, server, Head, head_bytes, header_lines, Reads, HasNone, NeverHas, HasOver, EndsWithin}
+use Rattle.satp_http.specs.Heads.{Sender, client, server, Head, head_bytes, header_lines, Reads, HasNone, NeverHas, HasOver, EndsWithin, MayBecome}
 use Rattle.satp_http.specs.Table.{table, first_fault, body_length, interim_after}
 use Rattle.satp_http.specs.HttpText.{HttpText, Sent, sent_bytes, IsSent, AreSent, interim_behind, IsHead, IsPart, IsUnfinished, HasNoHead, HasFault, Ends, window, requests_of, answers_of}
 use Rattle.satp_http.specs.Laws.{IsSameEnd, OneReadingOfRequests, OneReadingOfAnswers}
@@ -176,7 +176,9 @@ over_stays by w more over = (over.0, over.1 ++ more, ap (λ l. l ++ more) over.2
 no_head_stays : (by : Sender) (bytes more : List ℕ) (f : HttpFault) → HasNoHead by bytes f → HasNoHead by (bytes ++ more) f
 no_head_stays by bytes more fault.Head never = (let g = grown 8192 bytes more in subst (NeverHas by) (sym g.1) (never_stays by (window bytes) g.0 never))
 no_head_stays by bytes more fault.ManyHeaders over = (let g = grown 8192 bytes more in subst (HasOver by 64) (sym g.1) (over_stays by (window bytes) g.0 over))
-no_head_stays by bytes more fault.HeadLong long = (omega (arith, long.0, length-append bytes more), subst (HasNone by) (sym (take-append-le 8192 bytes more long.0)) long.1)
+no_head_stays by bytes more fault.HeadLong long =
+    let same = sym (take-append-le 8192 bytes more long.0) in
+    (omega (arith, long.0, length-append bytes more), subst (HasNone by) same long.1, (λ over. long.2 (subst (HasOver by 64) (sym same) over)), subst (MayBecome by) same long.3)
 no_head_stays by bytes more f none = none
 
 pub fault_stays : (by : Sender) (n : ℕ) (bytes more : List ℕ) (f : HttpFault) → HasFault by n bytes f → HasFault by n (bytes ++ more) f

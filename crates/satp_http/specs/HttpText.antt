@@ -42,11 +42,13 @@ interim_behind by interim (sent ∷ more) = interim_behind by (interim_after by 
 abbrev pub window : List ℕ → List ℕ
 window bytes = take longest bytes
 
--- The bytes begin with no head within the limits. Two of the three may stand together, and then either is the fault.
+-- The bytes begin with no head within the limits. `Head` and `ManyHeaders` may stand together, and then either is the fault. A head is too long only
+-- where it isn't over its lines, and may still become one.
 abbrev pub HasNoHead : Sender → List ℕ → HttpFault → Type 0
 HasNoHead by bytes fault.Head = NeverHas by (window bytes)
 HasNoHead by bytes fault.ManyHeaders = HasOver by most_lines (window bytes)
-HasNoHead by bytes fault.HeadLong = (longest ≤ length bytes) × HasNone by (window bytes)
+HasNoHead by bytes fault.HeadLong =
+    (longest ≤ length bytes) × HasNone by (window bytes) × (¬ (HasOver by most_lines (window bytes))) × MayBecome by (window bytes)
 HasNoHead by bytes f = ⊥
 
 -- the bytes begin with a head, and this is the first row of the table that holds of it

@@ -23,7 +23,7 @@ pub use laws::{
 };
 pub use requests::{Asked, Requests, Taken};
 pub use responses::{Answered, Responses};
-pub use write::{write_request, write_response};
+pub use write::{interim_text, write_request, write_response};
 
 #[cfg(test)]
 mod tests;

@@ -84,10 +84,10 @@ impl Requests {
     /// Takes the request at the front, where it is whole. Where it isn't there is room for more bytes.
     ///
     /// A fault comes as soon as the bytes held show it, and is the first of its head in the order of
-    /// `HttpFault`, with two exceptions: where two of `Head`, `ManyHeaders` and `HeadLong` hold, either may
-    /// come; and where the bytes end within a target that nothing behind them makes a head's, `Head` may
-    /// come only once the target has ended. A fault is answered again by each later call, but for `Memory`,
-    /// which changes nothing.
+    /// `HttpFault`, with two exceptions: where both `Head` and `ManyHeaders` hold, either may come; and where
+    /// the bytes end within a target that no bytes after them make a head's, `Head` may come only once the
+    /// target has ended. A fault is answered again by each later call, but for `Memory`, which changes
+    /// nothing.
     pub fn take(&mut self, alloc: Global) -> Result<Taken, HttpFault>
         ensures takes { TakesRequest self.old self.new result }
         ensures room { result ≡ Ok More → length self.new.held < room }

@@ -90,13 +90,22 @@ impl Responses {
         self.buffer.add(piece)
     }
 
+    /// How many bytes are held.
+    pub fn held(&self) -> usize
+        ensures held { result ≡ length self.now.held }
+        ensures most { result ≤ room }
+    {
+        self.buffer.bytes().len()
+    }
+
     /// Takes the answer at the front, where it is whole. Answers of code 100 are passed over, at most
     /// sixteen in a row. Where no other answer is whole there is room for more bytes.
     ///
     /// A fault comes as soon as the bytes held show it, and is the first of its head in this order: `Head`,
     /// `ManyHeaders`, `HeadLong`, `Version`, `Interim`, `Chunked`, `Coding`, and for codes other than 100 and
-    /// 204 `LengthMissing`, `LengthBad`, `BodyLong`. Where two of the first three hold, either may come. A
-    /// fault is answered again by each later call, but for `Memory`, which changes nothing.
+    /// 204 `LengthMissing`, `LengthBad`, `BodyLong`. Where both of the first two hold, either may come;
+    /// `HeadLong` comes only where neither does. A fault is answered again by each later call, but for
+    /// `Memory`, which changes nothing.
     pub fn take(&mut self, alloc: Global) -> Result<Option<Answered>, HttpFault>
         ensures takes { TakesAnswer self.old self.new result }
         ensures room { result ≡ Ok None → length self.new.held < room }

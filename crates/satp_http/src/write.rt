@@ -2,7 +2,7 @@
 ghost use Rattle.std.specs.Prelude.{◌≡◌, ◌++◌, [], IsTrue, IfOk, OnOk};
 ghost use Rattle.httparse.specs.Ascii.{crlf_bytes};
 ghost use Rattle.satp_base.specs.Values.{address_text};
-ghost use Rattle.satp_http.specs.Written.{head_line, content_lines, allow_lines, kind_lines, close_lines, request_text, response_text, phrase, is_answer_code};
+ghost use Rattle.satp_http.specs.Written.{head_line, content_lines, allow_lines, kind_lines, close_lines, request_text, response_text, phrase, is_answer_code, interim_text};
 
 use http::StatusCode;
 use itoa::Buffer;
@@ -108,4 +108,11 @@ pub fn write_response(alloc: Global, code: u16, body: &[u8], close: bool) -> Res
     text.append(b"\r\n")?;
     text.append(body)?;
     Ok(text)
+}
+
+/// The interim answer (RFC 9110, section 15.2.1), which a client that expects it waits for before it sends the body.
+pub fn interim_text() -> &'static [u8]
+    ensures { result.now ≡ interim_text }
+{
+    b"HTTP/1.1 100 Continue\r\n\r\n"
 }

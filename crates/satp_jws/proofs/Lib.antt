@@ -2,3 +2,4 @@ mod BlockLemmas
 mod HeaderLemmas
 mod PartLemmas
 mod VerifyLemmas
+pub mod DecodedBytes

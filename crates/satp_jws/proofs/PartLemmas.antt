@@ -11,6 +11,7 @@ use Rattle.base64.specs.GeneralPurpose.{IsBytes, IsDecodeFailure, decode_of, dec
 use Rattle.base64.specs.declared.decode.DecodeAllocError.{DecodeAllocError}
 use Rattle.base64.specs.declared.decode.DecodeAllocError.TheVariants.{DecodeError as Failed}
 use Rattle.base64.specs.declared.decode.DecodeError.{DecodeError}
+use Rattle.base64.proofs.EngineFacts.{decode_of_strict}
 use Rattle.base64.proofs.RoundTrip.{decode-encode}
 use Rattle.satp_base.specs.Signatures.{encoded}
 use Rattle.satp_base.proofs.SignatureLemmas.{encoded_by, no_stop}
@@ -143,3 +144,11 @@ decoded_encoded bytes valid =
     let both = decode-encode e.encode_table e.decode_table bytes e.padding.value e.config.decode_allow_trailing_bits e.config.decode_padding_mode e.config.encode_padding e.tables valid refl in
     let ok : decode_of url_safe_no_pad (encoded bytes) ≡ Ok (decoded_bytes_of url_safe_no_pad (encoded bytes)) = rw (← encoded_by bytes, both.0) refl in
     decoded_ok (encoded bytes) _ bytes ok (rw (← encoded_by bytes) (sym both.1))
+
+ok_result : (r : Result (List ℕ) DecodeError) (bytes : List ℕ) → result_ok r ≡ Some bytes → r ≡ Ok bytes
+ok_result (Ok found) bytes e = ap Ok (cc e)
+ok_result (Err why) bytes e = absurd cc
+
+pub decoded_as : (part bytes : List ℕ) → IsBytes part → decoded part ≡ Some bytes → part ≡ encoded bytes
+unfolding decoded decoded_of
+decoded_as part bytes valid e = decode_of_strict url_safe_no_pad part bytes (refl, refl) valid (ok_result _ bytes e) ∙ encoded_by bytes

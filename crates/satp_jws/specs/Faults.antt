@@ -1,14 +1,14 @@
 -- Why bytes are no key, and why a text is no compact JWS under a key: each the first fault that holds.
-use Rattle.std.specs.Prelude.{ℕ, ◌==◌, List, [], ◌∷◌, ◌++◌, Bool, codes, length, nat_lt, Option, Some, None, is_some, option_and_then, unwrap_or, if◌then◌else◌}
+use Rattle.std.specs.Prelude.{◌≡◌, ◌↔◌, ℕ, ◌==◌, List, [], ◌∷◌, ◌++◌, Bool, codes, length, nat_lt, Option, Some, None, is_some, option_and_then, unwrap_or, if◌then◌else◌}
 use Rattle.std.specs.List.{slice_split}
 use Rattle.std.specs.Str.{bytes_eq, is_utf8}
 use Rattle.serde_json.specs.Data.{Data}
 use Rattle.serde_json.specs.Read.{read}
 use Rattle.serde_json.specs.Find.{get, as_str}
 use Rattle.base64.specs.Engines.{url_safe_no_pad}
-use Rattle.base64.specs.GeneralPurpose.{decoded_of}
+use Rattle.base64.specs.GeneralPurpose.{IsBytes, decoded_of}
 use Rattle.satp_base.specs.Faults.{or_else}
-use Rattle.satp_base.specs.Signatures.{hmac}
+use Rattle.satp_base.specs.Signatures.{encoded, hmac, own_header}
 use Rattle.satp_jws.specs.declared.fault.KeyFault.{KeyFault}
 use Rattle.satp_jws.specs.declared.fault.KeyFault.TheVariants.{Short, Long}
 use Rattle.satp_jws.specs.declared.fault.JwsFault.{JwsFault}
@@ -94,3 +94,13 @@ parts_fault key parts = Some (Parts (length parts))
 
 unfoldable pub jws_fault : List ℕ → List ℕ → Option JwsFault
 jws_fault key text = parts_fault key (parts_of text)
+
+-- ---- laws
+
+-- the header that this gateway's texts have passes the tests of headers
+abbrev pub OwnHeaderPasses : Type 0
+OwnHeaderPasses = header_fault own_header ≡ None
+
+-- a part decodes exactly where it is the unpadded base64url of some bytes, and to these
+abbrev pub DecodesWhatIsEncoded : Type 0
+DecodesWhatIsEncoded = (part bytes : List ℕ) → IsBytes part → (decoded part ≡ Some bytes) ↔ (IsBytes bytes × (part ≡ encoded bytes))

@@ -6,6 +6,7 @@ mod fault;
 mod header;
 mod hmac;
 mod key;
+mod laws;
 mod parts;
 mod signing;
 #[cfg(test)]
@@ -15,5 +16,6 @@ mod verifying;
 pub use fault::{JwsFault, KeyFault};
 pub use hmac::hmac_sha256;
 pub use key::Key;
+pub use laws::{law_own_header, law_parts};
 pub use signing::sign;
 pub use verifying::{Verified, verify};

@@ -1,7 +1,7 @@
-ghost use Rattle.std.specs.Prelude.{◌≡◌, ◌≢◌, ◌↔◌, ◌∷◌, ◌++◌, ℕ, List, None, Some, IfOk, IsTrue, MatchResult};
+ghost use Rattle.std.specs.Prelude.{◌≡◌, ◌≢◌, ◌↔◌, ◌∷◌, ◌++◌, ℕ, List, None, Some, Err, IfOk, IsTrue, MatchResult, length};
 ghost use Rattle.base64.specs.GeneralPurpose.{IsBytes};
 ghost use Rattle.satp_base.specs.Signatures.{encoded, jws};
-ghost use Rattle.satp_jws.specs.Faults.{decoded, header_fault, header_of, jws_fault, part_fault, payload_of, three_fault};
+ghost use Rattle.satp_jws.specs.Faults.{decoded, header_fault, header_of, jws_fault, part_fault, parts_of, payload_of, three_fault};
 ghost use Rattle.satp_jws.specs.Reading.{Reads};
 ghost use Rattle.satp_jws.specs.declared.fault.JwsFault.TheVariants.{Memory};
 
@@ -38,6 +38,8 @@ pub fn verify(alloc: Global, key: &Key, text: &[u8]) -> Result<Verified, JwsFaul
         → MatchResult result
         (λ v. (v.header ≡ header) × (v.payload ≡ payload))
         (λ fault. fault ≡ Memory) }
+    // want of memory hides no wrong number of parts
+    ensures memory { result ≡ Err Memory → length (parts_of text.now) ≡ 3 }
 {
     let count = part_count(text);
     if count != 3 {

@@ -129,10 +129,10 @@ not_final _ h e = cc e
 
 -- ---- what holds behind any list of allowed records
 
-record Keeps (v : View) : Type 0 where
-  tale : IsTale v.tale
-  final : has CommitFinal v.tale ≡ true → is_commit v.way ≡ true
-  ready : is_commit v.way ≡ true → has CommitReady v.tale ≡ true
+pub record Keeps (v : View) : Type 0 where
+  pub tale : IsTale v.tale
+  pub final : has CommitFinal v.tale ≡ true → is_commit v.way ≡ true
+  pub ready : is_commit v.way ≡ true → has CommitReady v.tale ≡ true
 
 not_both : (way : Option Way) → is_commit way ≡ true → is_back way ≡ true → ⊥
 not_both None p q = cc p
@@ -213,11 +213,11 @@ step v (Chose (Back Rescued)) k m = (tt, decides_back v Rescued k m)
 step v Rescue k m = (tt, record { tale = k.tale; final = k.final; ready = k.ready })
 step v _ k m = absurd m
 
-keeps_from : (v : View) (rs : List Rec) → Keeps v → AreAllowed Origin v rs → Keeps (view_from v rs)
+pub keeps_from : (v : View) (rs : List Rec) → Keeps v → AreAllowed Origin v rs → Keeps (view_from v rs)
 keeps_from v [] k h = k
 keeps_from v (r ∷ rs) k h = keeps_from (push v r) rs (step v r k (may-come v r h.0)).1 h.1
 
-begins : (terms : Terms) → Keeps (begin Origin terms)
+pub begins : (terms : Terms) → Keeps (begin Origin terms)
 begins terms = record { tale = tale-is (TransferProposal ∷ []) (there here); final = λ h. absurd (cc h); ready = λ h. absurd (cc h) }
 
 pub law_tales : LawTales Origin

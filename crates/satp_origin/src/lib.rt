@@ -4,7 +4,7 @@
 //! decides: it commits and burns, or it turns back, releases and says so. It may turn back until it has committed.
 #![tactic(auto)]
 
-ghost use Rattle.satp_base.specs.Roles.{LawTales};
+ghost use Rattle.satp_base.specs.Roles.{LawAborts, LawTales};
 ghost use Rattle.satp_base.specs.declared.message.Role.TheVariants.{Origin};
 
 mod choice;
@@ -17,4 +17,9 @@ pub use table::next;
 /// keeps them one. The law makes no call.
 pub fn law_tales()
     ensures { LawTales Origin }
+{}
+
+/// In a view of allowed records, the record that an abort gives may come. The law makes no call.
+pub fn law_aborts()
+    ensures { LawAborts Origin }
 {}

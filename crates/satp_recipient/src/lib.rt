@@ -5,7 +5,7 @@
 //! reject; after that only the origin decides.
 #![tactic(auto)]
 
-ghost use Rattle.satp_base.specs.Roles.{LawTales};
+ghost use Rattle.satp_base.specs.Roles.{LawAborts, LawReasons, LawTales};
 ghost use Rattle.satp_base.specs.declared.message.Role.TheVariants.{Recipient};
 
 mod choice;
@@ -18,4 +18,14 @@ pub use table::next;
 /// keeps them one. The law makes no call.
 pub fn law_tales()
     ensures { LawTales Recipient }
+{}
+
+/// In a view of allowed records, the record that an abort gives may come. The law makes no call.
+pub fn law_aborts()
+    ensures { LawAborts Recipient }
+{}
+
+/// A recipient decides nothing but to turn back, and the reason that its reject names is why. The law makes no call.
+pub fn law_reasons()
+    ensures { LawReasons }
 {}

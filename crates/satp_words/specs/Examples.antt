@@ -1,8 +1,8 @@
 -- What commands take of words that are written out.
-use Rattle.std.specs.Prelude.{◌≡◌, true, List, [], ◌∷◌, Some, None, codes}
+use Rattle.std.specs.Prelude.{◌≡◌, true, List, [], ◌∷◌, ◌++◌, Some, None, codes}
 use Rattle.clap.specs.Words.{App, Text, fault_of}
 use Rattle.clap.specs.declared.error.kind.ErrorKind.TheVariants as kind
-use Rattle.satp_words.specs.Commands.{check}
+use Rattle.satp_words.specs.Commands.{check, init}
 use Rattle.satp_words.specs.Options.{Takes, app, named, value}
 
 -- a command with two options that have to be there
@@ -40,6 +40,10 @@ pub record RefusesOptions : Type 0 where
   -- an option left out that has to be there
   pub missing : fault_of two (codes "two" ∷ codes "--dir=a" ∷ []) ≡ kind.MissingRequiredArgument ∷ []
 
+-- the base64url of 32 zeros
+abbrev pub key : Text
+key = codes "AAAAAAAAAAAAAAAAAAAAAAAAAAAAAAAAAAAAAAAAAAA"
+
 pub record ChecksWords : Type 0 where
   -- the key may be left out
   pub none : Takes check (codes "check" ∷ [])
@@ -49,3 +53,41 @@ pub record ChecksWords : Type 0 where
   pub short_help : fault_of check (codes "check" ∷ codes "-h" ∷ []) ≡ kind.UnknownArgument ∷ []
   pub help_word : fault_of check (codes "check" ∷ codes "help" ∷ []) ≡ kind.UnknownArgument ∷ []
   pub part_of_name : fault_of check (codes "check" ∷ codes "--ke=a" ∷ []) ≡ kind.UnknownArgument ∷ []
+  -- the key in both forms, twice, with no value, and with a word too many
+  pub key_apart : Takes check (codes "check" ∷ codes "--key" ∷ key ∷ [])
+  pub key_attached : Takes check (codes "check" ∷ (codes "--key=" ++ key) ∷ [])
+  pub key_read : value check (codes "check" ∷ codes "--key" ∷ key ∷ []) (codes "key") ≡ Some key
+  pub key_read_attached : value check (codes "check" ∷ (codes "--key=" ++ key) ∷ []) (codes "key") ≡ Some key
+  pub key_twice : fault_of check (codes "check" ∷ codes "--key" ∷ key ∷ codes "--key" ∷ key ∷ []) ≡ kind.ArgumentConflict ∷ []
+  pub key_without_a_value : fault_of check (codes "check" ∷ codes "--key" ∷ []) ≡ kind.InvalidValue ∷ []
+  pub word_too_many : fault_of check (codes "check" ∷ codes "--key" ∷ key ∷ codes "more" ∷ []) ≡ kind.UnknownArgument ∷ []
+
+-- the options of `init`, each apart from its value, and each with its value attached; and both without the last one
+abbrev pub five_apart : List Text
+five_apart = codes "--dir" ∷ codes "d" ∷ codes "--name" ∷ codes "alpha" ∷ codes "--peer" ∷ codes "beta" ∷ codes "--at" ∷ codes "127.0.0.1:80" ∷ codes "--key" ∷ key ∷ []
+
+abbrev pub five_attached : List Text
+five_attached = (codes "--key=" ++ key) ∷ codes "--at=127.0.0.1:80" ∷ codes "--peer=beta" ∷ codes "--name=alpha" ∷ codes "--dir=d" ∷ []
+
+abbrev pub init_apart : List Text
+init_apart = codes "init" ∷ five_apart ++ codes "--ledger" ∷ codes "accounts" ∷ []
+
+abbrev pub init_attached : List Text
+init_attached = codes "init" ∷ codes "--ledger=accounts" ∷ five_attached
+
+pub record InitsWords : Type 0 where
+  pub apart : Takes init init_apart
+  pub attached : Takes init init_attached
+  -- both forms give the same values
+  pub dir : (value init init_apart (codes "dir") ≡ Some (codes "d")) × (value init init_attached (codes "dir") ≡ Some (codes "d"))
+  pub name : (value init init_apart (codes "name") ≡ Some (codes "alpha")) × (value init init_attached (codes "name") ≡ Some (codes "alpha"))
+  pub peer : (value init init_apart (codes "peer") ≡ Some (codes "beta")) × (value init init_attached (codes "peer") ≡ Some (codes "beta"))
+  pub at : (value init init_apart (codes "at") ≡ Some (codes "127.0.0.1:80")) × (value init init_attached (codes "at") ≡ Some (codes "127.0.0.1:80"))
+  pub the_key : (value init init_apart (codes "key") ≡ Some key) × (value init init_attached (codes "key") ≡ Some key)
+  pub ledger : (value init init_apart (codes "ledger") ≡ Some (codes "accounts")) × (value init init_attached (codes "ledger") ≡ Some (codes "accounts"))
+  -- one option left out, one given twice, one word too many, and an option that there isn't
+  pub missing : fault_of init (codes "init" ∷ five_apart) ≡ kind.MissingRequiredArgument ∷ []
+  pub missing_attached : fault_of init (codes "init" ∷ five_attached) ≡ kind.MissingRequiredArgument ∷ []
+  pub twice : fault_of init (init_apart ++ codes "--dir=d" ∷ []) ≡ kind.ArgumentConflict ∷ []
+  pub word_too_many : fault_of init (init_attached ++ codes "more" ∷ []) ≡ kind.UnknownArgument ∷ []
+  pub unknown : fault_of init (init_attached ++ codes "--log=l" ∷ []) ≡ kind.UnknownArgument ∷ []

@@ -1,14 +1,15 @@
 //! Theorems on words. They stand over definitions alone and make no call.
 
 ghost use Rattle.satp_words.specs.Commands.{OneCommand};
-ghost use Rattle.satp_words.specs.Examples.{ChecksWords, RefusesOptions, TakesOptions};
+ghost use Rattle.satp_words.specs.Examples.{ChecksWords, InitsWords, RefusesOptions, TakesOptions};
 
-/// A command takes an option as `--name value` and as `--name=value`, in any order, once, and one `--` at the end; and
-/// `check` knows no help.
+/// A command takes an option as `--name value` and as `--name=value`, in any order, once, and one `--` at the end;
+/// `check` may have a key and knows no help; and `init` has six options, each once.
 pub fn law_examples()
     ensures takes { TakesOptions }
     ensures refuses { RefusesOptions }
     ensures check { ChecksWords }
+    ensures init { InitsWords }
 {}
 
 /// Words list at most one command.

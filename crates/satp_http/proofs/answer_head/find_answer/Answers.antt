@@ -49,3 +49,13 @@ returns-else-held-ge-LONGEST c =
       few = λ over. few_not_over server c.window-window.result.now (sym c.has_many_lines.ensures ∙ c.if-has_many_lines.false) (subst (HasOver server 64) (sym same) over);
       begun = subst (MayBecome server) same (inl (rw c.in-Ok-Partial.field-0-is at c.in-Ok-Partial.ensures.unfinished));
     }
+
+pub returns-then-held-ge-LONGEST : goal.returns-then-held-ge-LONGEST
+returns-then-held-ge-LONGEST c =
+    let same = c.window-window.ensures in
+    inl (
+      omega arith,
+      subst (HasNone server) same (rw c.in-Ok-Partial.field-0-is at c.in-Ok-Partial.ensures.partial),
+      (λ over. few_not_over server c.window-window.result.now (sym c.has_many_lines.ensures ∙ c.if-has_many_lines.false) (subst (HasOver server 64) (sym same) over)),
+      subst (MayBecome server) same (inl (rw c.in-Ok-Partial.field-0-is at c.in-Ok-Partial.ensures.unfinished)),
+    )

@@ -35,4 +35,29 @@ returns-clause-check c = record {
   short_help = refl;
   help_word = refl;
   part_of_name = refl;
+  key_apart = refl;
+  key_attached = refl;
+  key_read = refl;
+  key_read_attached = refl;
+  key_twice = refl;
+  key_without_a_value = refl;
+  word_too_many = refl;
+}
+
+pub returns-clause-init : goal.returns-clause-init
+unfolding clap_on_literals
+returns-clause-init c = record {
+  apart = refl;
+  attached = refl;
+  dir = (refl, refl);
+  name = (refl, refl);
+  peer = (refl, refl);
+  at = (refl, refl);
+  the_key = (refl, refl);
+  ledger = (refl, refl);
+  missing = refl;
+  missing_attached = refl;
+  twice = refl;
+  word_too_many = refl;
+  unknown = refl;
 }

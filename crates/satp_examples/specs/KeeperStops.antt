@@ -96,13 +96,17 @@ pub record LedgersThatAreNotFounded : Type 0 where
   pub at_the_look : FailsToFound 3 (Cut Ledger 0 ∷ synced ∷ [])
   pub at_the_append : FailsToFound 7 cut_and_opened
   pub no_memory_at_once : UnfoundedBy (d ∷ []) (Some filled) (Some filled) keeper.Memory
-  pub no_memory_behind_the_opening : IsUnfounded 6 cut_and_opened keeper.Memory
+  pub no_memory_for_the_bytes : IsUnfounded 3 (Cut Ledger 0 ∷ synced ∷ []) keeper.Memory
+  pub no_memory_for_the_list_and_the_room : IsUnfounded 4 (Cut Ledger 0 ∷ synced ∷ []) keeper.Memory
   pub damaged_where_nothing_is_told : UnfoundedBy (d ∷ []) None None (keeper.Damaged 6)
   pub not_failed_without_a_call : ¬ UnfoundedBy (d ∷ []) (Some filled) (Some filled) keeper.Disk
   pub not_failed_where_all_succeeded : ¬ IsUnfounded 7 cut_and_opened keeper.Disk
   pub not_with_one_call_too_few : ¬ FailsToFound 1 (Cut Ledger 0 ∷ synced ∷ [])
   pub not_without_the_sync_of_the_cut : ¬ FailsToFound 2 (Cut Ledger 0 ∷ shut ∷ [])
   pub not_on_another_area : ¬ FailsToFound 2 (Cut Ledger 0 ∷ Synced JournalA ∷ [])
+  -- the ledger and its payloads take no memory after the cut, nor after the opening
+  pub not_without_memory_after_the_cut : ¬ IsUnfounded 1 (Cut Ledger 0 ∷ []) keeper.Memory
+  pub not_without_memory_after_the_opening : ¬ IsUnfounded 6 cut_and_opened keeper.Memory
   pub not_without_memory_behind_the_record : ¬ IsUnfounded 10 founding keeper.Memory
   pub not_damaged_where_it_is_told : (at : ℕ) → ¬ IsUnfounded 4 (Cut Ledger 0 ∷ synced ∷ []) (keeper.Damaged at)
   pub not_broken : (new : Option Told) → ¬ UnfoundedBy (d ∷ []) None new keeper.Broken

@@ -8,7 +8,7 @@ ghost use Rattle.satp_journal.specs.Opening.{OpenAnswers, OpenStops, Rests};
 
 use crate::fault::JournalFault;
 use crate::open::{mend, read_synced};
-use crate::scan::{Scanned, scan};
+use crate::scan::{Scanned, scan_with_room};
 use crate::stock::Stock;
 use crate::store::store;
 use satp_base::{Area, Disk, Memory};
@@ -58,11 +58,37 @@ impl Journal {
         ensures kept { OnOk result (D.faults disk.new ≡ D.faults disk.old) }
         ensures still { IfErr result (λ fault. fault ≢ JournalFault.Disk → D.faults disk.new ≡ D.faults disk.old) }
     {
+        Journal::open_with_room(alloc, disk, area, 0, 0)
+    }
+
+    /// Opens the journal of an area as [`Journal::open`] does, with memory for so many further records, and for so many bytes of their payloads together.
+    ///
+    /// All memory is found before the first write, so `Memory` leaves the bytes as they are.
+    pub fn open_with_room<D: Disk>(
+        alloc: Global,
+        disk: &mut D,
+        area: Area,
+        records: usize,
+        bytes: usize,
+    ) -> Result<Journal, JournalFault>
+        ensures answers { OpenAnswers area (D.told disk.old) (D.told disk.new) result }
+        ensures stops { OpenStops area (D.told disk.old) (D.told disk.new) }
+        ensures rests { IfOk result (λ journal. Rests (D.told disk.new) journal.held) }
+        ensures fits { IfOk result (λ journal. Fits journal.held (D.told disk.new)) }
+        ensures ledger { D.book disk.new ≡ D.book disk.old }
+        ensures beside { D.beside disk.old disk.new }
+        ensures later { D.faults disk.old ≤ D.faults disk.new }
+        ensures cause { IfErr result (λ fault. fault ≡ JournalFault.Disk → Rose (D.faults disk.old) (D.faults disk.new)) }
+        ensures kept { OnOk result (D.faults disk.new ≡ D.faults disk.old) }
+        ensures still { IfErr result (λ fault. fault ≢ JournalFault.Disk → D.faults disk.new ≡ D.faults disk.old) }
+        ensures records { IfOk result (λ journal. records ≤ journal.spare_records) }
+        ensures bytes { IfOk result (λ journal. bytes ≤ journal.spare_bytes) }
+    {
         let image = match read_synced(alloc, disk, area) {
             Ok(image) => image,
             Err(fault) => return Err(fault),
         };
-        let found = match scan(alloc, &image) {
+        let found = match scan_with_room(alloc, &image, records, bytes) {
             Ok(found) => found,
             Err(unread) => return Err(JournalFault::from(unread)),
         };
@@ -75,7 +101,9 @@ impl Journal {
     fn of(area: Area, found: Scanned) -> Journal
         requires room { found.gate + 1 < 2 ^ 64 }
         requires place { found.gate ≡ length (records found.stock.payloads) }
-        ensures { result.held ≡ record { area = area; payloads = found.stock.payloads; broken = false } }
+        ensures held { result.held ≡ record { area = area; payloads = found.stock.payloads; broken = false } }
+        ensures records { result.spare_records ≡ found.stock.spare_records }
+        ensures bytes { result.spare_bytes ≡ found.stock.spare_bytes }
     {
         let Scanned { stock, gate } = found;
         Journal {

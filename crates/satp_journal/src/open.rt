@@ -1,6 +1,6 @@
-ghost use Rattle.std.specs.Prelude.{◌≡◌, ◌≢◌, ◌≤◌, IfOk, IfErr, OnOk, OnErr, length};
+ghost use Rattle.std.specs.Prelude.{◌≡◌, ◌≢◌, ◌≤◌, [], IfOk, IfErr, IfSome, OnOk, OnErr, length, option_map, take};
 ghost use Rattle.std.specs.Option.{ForSome};
-ghost use Rattle.satp_base.specs.Calls.{FailsAmong, Makes};
+ghost use Rattle.satp_base.specs.Calls.{FailsAmong, Makes, call_failed, made};
 ghost use Rattle.satp_base.specs.Segments.{wants_gate};
 ghost use Rattle.satp_base.specs.Streams.{HasCause, Rose};
 ghost use Rattle.satp_base.specs.Trail.{seen};
@@ -29,7 +29,22 @@ pub fn read_synced<D: Disk>(
 {
     disk.sync(area)?;
     let length = disk.length(area)?;
-    let mut bytes = vec![in alloc; 0; length as usize]?;
+    let buffer = vec![in alloc; 0; length as usize]?;
+    let bytes = read_first(disk, area, buffer)?;
+    Ok(bytes)
+}
+
+/// Reads an area's first bytes into a buffer, as many as it has room for. What a shorter read didn't fill is cut off.
+fn read_first<D: Disk>(disk: &mut D, area: Area, buffer: Vec<u8>) -> Result<Vec<u8>, DiskFault>
+    ensures bytes { IfOk result (λ image. IfSome (D.told disk.old) (λ t. image.items ≡ take (length buffer.items) (seen t.trail area))) }
+    ensures bound { IfOk result (λ image. length image.items ≤ length buffer.items) }
+    ensures ok { OnOk result (D.told disk.new ≡ option_map (made 1 []) (D.told disk.old)) }
+    ensures err { OnErr result (D.told disk.new ≡ option_map (call_failed []) (D.told disk.old)) }
+    ensures ledger { D.book disk.new ≡ D.book disk.old }
+    ensures beside { D.beside disk.old disk.new }
+    ensures cause { HasCause (D.faults disk.old) (D.faults disk.new) result }
+{
+    let mut bytes = buffer;
     let count = disk.read(area, 0, &mut bytes)?;
     bytes.truncate(count);
     Ok(bytes)

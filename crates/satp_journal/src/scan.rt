@@ -1,4 +1,4 @@
-ghost use Rattle.std.specs.Prelude.{◌≡◌, ◌≤◌, ◌<◌, ◌+◌, length, MatchResult, MatchOption};
+ghost use Rattle.std.specs.Prelude.{◌≡◌, ◌≤◌, ◌<◌, ◌+◌, length, IfOk, MatchResult, MatchOption};
 ghost use Rattle.satp_base.specs.Format.{NoRecord, SplitsOff};
 ghost use Rattle.satp_journal.specs.Listing.{IsUnread};
 ghost use Rattle.satp_journal.specs.Scanned.{IsScanned};
@@ -15,6 +15,27 @@ pub const OPEN: u8 = 1;
 pub struct Scanned {
     pub stock: Stock,
     pub gate: usize,
+}
+
+/// The list that an image stands for, with room for so many further payloads, and for so many bytes of them together.
+pub fn scan_with_room(
+    alloc: Global,
+    image: &[u8],
+    records: usize,
+    bytes: usize,
+) -> Result<Scanned, Unread>
+    ensures list { MatchResult result (IsScanned image.now) (IsUnread image.now) }
+    ensures records { IfOk result (λ found. records ≤ found.stock.spare_records) }
+    ensures bytes { IfOk result (λ found. bytes ≤ found.stock.spare_bytes) }
+{
+    let Scanned { mut stock, gate } = match scan(alloc, image) {
+        Ok(found) => found,
+        Err(unread) => return Err(unread),
+    };
+    match stock.reserve(records, bytes) {
+        Ok(()) => Ok(Scanned { stock, gate }),
+        Err(_) => Err(Unread::Memory),
+    }
 }
 
 /// The list that an image stands for.

@@ -121,11 +121,10 @@ module _ (old mid : Option Told) (is : Makes cut_calls old mid) where
 
   pub cut_fault : (new : Option Told) (fault : JournalFault) → OpenAnswers Ledger mid new (Err fault) → UnfoundedBy [] old new (fault_of fault)
   cut_fault new journal.Disk opens = disk_fails new opens
-  cut_fault new journal.Memory opens = ⊎_elim (λ h. inr (inl (looked new h))) (λ h. inr (inr (inl (read new h)))) opens
+  cut_fault new journal.Memory opens = ⊎_elim (λ h. inr (inl (looked new h))) (λ h. inr (inr (read new h))) opens
   cut_fault new journal.Broken opens = absurd opens
-  cut_fault new (journal.Damaged place) (image, read, (payloads, (long, rest), where'), told) =
-      let none = no_image old image long (empty_read old mid image is read) in
-      (none, subst (λ (o : Option Told). OpenAnswers Ledger o new (Err (journal.Damaged place))) (is ∙ ap (option_map (made 1 cut)) none ∙ sym none) (image, read, (payloads, (long, rest), where'), told))
+  cut_fault new (journal.Damaged place) (image, told, (payloads, (long, rest), where'), makes) =
+      (no_image old image long (empty_read old mid image is told), (image, (payloads, (long, rest), where')), read new makes)
 
 -- a cut that fails is the first call
 pub failed_cut : (old new : Option Told) → Fails (Cut Ledger 0) old new → UnfoundedBy [] old new Disk

@@ -221,7 +221,7 @@ module _ (whole : List (List ℕ)) (all : AllByRecursion IsPayload whole) where
 
   pub unfounded_stops : (old new : Option Told) (fault : KeeperFault) → Keeps new → UnfoundedBy whole old new fault → FoundStops whole old new
   unfounded_stops old new Disk keeps is = stops_at old new keeps (fails_begin whole old new is)
-  unfounded_stops old new Memory keeps is = stops_at old new keeps (⊎_elim (none_begins whole old new) (⊎_elim (front_begins whole old new 3) (⊎_elim (front_begins whole old new 4) (front_begins whole old new 6))) is)
+  unfounded_stops old new Memory keeps is = stops_at old new keeps (⊎_elim (none_begins whole old new) (⊎_elim (front_begins whole old new 3) (front_begins whole old new 4)) is)
   unfounded_stops old new (Damaged at) keeps is = subst (λ (o : Option Told). FoundStops whole o new) (sym is.0) tt
   unfounded_stops old new (OutOfOrder entry) keeps is = absurd is
   unfounded_stops old new Empty keeps is = absurd is

@@ -1,18 +1,16 @@
 -- What a founding of a kept ledger does to the disk, and what a stop leaves of it.
-use Rattle.std.specs.Prelude.{◌≡◌, ◌⊎◌, ℕ, List, [], ◌∷◌, ◌++◌, length, take, Option, None, Some, IfSome, Err}
+use Rattle.std.specs.Prelude.{◌≡◌, ◌⊎◌, ℕ, List, [], ◌∷◌, ◌++◌, length, take, Option, None, Some, IfSome}
 use Rattle.satp_base.specs.declared.amount.Amount.{Amount}
 use Rattle.satp_base.specs.declared.area.Area.TheVariants.{Ledger}
 use Rattle.satp_base.specs.declared.area.Event.{Event}
 use Rattle.satp_base.specs.declared.area.Event.TheVariants.{Cut, Synced, Wrote}
 use Rattle.satp_base.specs.declared.name.Name.{Name}
 use Rattle.satp_base.specs.Calls.{Told, FailsAmong, Makes, calls_of, events_in}
-use Rattle.satp_base.specs.Format.{Stands, IsAtRest, records}
+use Rattle.satp_base.specs.Format.{Stands, Damage, IsAtRest, records}
 use Rattle.satp_base.specs.Laws.{IsInAppend}
 use Rattle.satp_base.specs.Segments.{IsCut, append_events, open_events}
 use Rattle.satp_base.specs.Trail.{Trail, IsImage, extended}
 use Rattle.satp_journal.specs.Appending.{AtEach}
-use Rattle.satp_journal.specs.Opening.{OpenAnswers}
-use Rattle.satp_journal.specs.declared.fault.JournalFault.TheVariants as journal
 use Rattle.satp_records.specs.Formats.{payload_of}
 use Rattle.satp_records.specs.declared.stored.Stored.TheVariants as stored
 use Rattle.satp_keeper.specs.declared.fault.KeeperFault.{KeeperFault}
@@ -40,12 +38,13 @@ found_calls whole = clear_calls ++ stored_calls whole
 -- ---- the answers
 
 -- Why a ledger isn't founded, and which calls were made. Disk: some succeeded, and the next one failed.
--- Memory: no call was made; or the opening after the cut found none, before its read or after it; or none was found for the payloads, after the opening. No payload is stored then.
--- Damaged: an opening answers it, and the disk doesn't tell.
+-- Memory: none was found for the ledger or its payloads, and no call was made; or the opening after the cut found none, and the area is empty. That opening finds memory
+-- for the bytes, after the cut, its sync and its look at the length; and for their list with the room for the payloads, after its read and before its first write.
+-- Damaged: after the cut and the calls of a read, bytes that stand for no list were read, and the disk tells nothing.
 abbrev pub UnfoundedBy : List (List ℕ) → Option Told → Option Told → KeeperFault → Type 0
 UnfoundedBy whole old new Disk = FailsAmong (found_calls whole) old new
-UnfoundedBy whole old new Memory = (new ≡ old) ⊎ Makes (take 3 clear_calls) old new ⊎ Makes (take 4 clear_calls) old new ⊎ Makes clear_calls old new
-UnfoundedBy whole old new (Damaged at) = (old ≡ None) × OpenAnswers Ledger old new (Err (journal.Damaged at))
+UnfoundedBy whole old new Memory = (new ≡ old) ⊎ Makes (take 3 clear_calls) old new ⊎ Makes (take 4 clear_calls) old new
+UnfoundedBy whole old new (Damaged at) = (old ≡ None) × ((image : List ℕ) × Damage image at) × Makes (take 4 clear_calls) old new
 UnfoundedBy whole old new (OutOfOrder entry) = ⊥
 UnfoundedBy whole old new Empty = ⊥
 UnfoundedBy whole old new (Record index) = ⊥

@@ -103,9 +103,16 @@ fn size_of(texts: &Texts) -> usize
     size
 }
 
-/// Cuts the area to nothing, and opens the journal there.
-fn open_empty<D: Disk>(alloc: Global, disk: &mut D) -> Result<Journal, KeeperFault>
+/// Cuts the area to nothing, and opens the journal there with room for so many records, and for so many bytes of their payloads together.
+fn open_empty<D: Disk>(
+    alloc: Global,
+    disk: &mut D,
+    records: usize,
+    bytes: usize,
+) -> Result<Journal, KeeperFault>
     ensures opened { IfOk result (λ journal. (journal.held.area ≡ Ledger) × (journal.held.broken ≡ false) × Fits journal.held (D.told disk.new) × Rests (D.told disk.new) journal.held × IfSome (D.told disk.new) (λ t. journal.held.payloads ≡ [])) }
+    ensures records { IfOk result (λ journal. records ≤ journal.spare_records) }
+    ensures bytes { IfOk result (λ journal. bytes ≤ journal.spare_bytes) }
     ensures answers { MatchResult result (λ journal. Makes clear_calls (D.told disk.old) (D.told disk.new)) (λ fault. UnfoundedBy [] (D.told disk.old) (D.told disk.new) fault) }
     ensures ledger { D.book disk.new ≡ D.book disk.old }
     ensures beside { D.beside disk.old disk.new }
@@ -118,7 +125,7 @@ fn open_empty<D: Disk>(alloc: Global, disk: &mut D) -> Result<Journal, KeeperFau
         Ok(()) => {}
         Err(DiskFault) => return Err(KeeperFault::Disk),
     }
-    match Journal::open(alloc, disk, Area::Ledger) {
+    match Journal::open_with_room(alloc, disk, Area::Ledger, records, bytes) {
         Ok(journal) => Ok(journal),
         Err(fault) => Err(fault_of(fault)),
     }
@@ -153,7 +160,7 @@ fn append_all<D: Disk>(disk: &mut D, journal: &mut Journal, texts: &Texts) -> Re
     Ok(())
 }
 
-/// Writes a new ledger. Memory for the ledger and its payloads is found before the first call on the disk, and the journal's room for them before the first append.
+/// Writes a new ledger. Memory for the ledger and its payloads is found before the first call on the disk, and the journal's room for them within its opening, before the first write.
 pub(crate) fn set_up<C: LedgerCore, D: Disk>(
     alloc: Global,
     disk: &mut D,
@@ -179,14 +186,10 @@ pub(crate) fn set_up<C: LedgerCore, D: Disk>(
         Err(Memory) => return Err(KeeperFault::Memory),
     };
     let size = size_of(&texts);
-    let mut journal = match open_empty(alloc, disk) {
+    let mut journal = match open_empty(alloc, disk, texts.length(), size) {
         Ok(journal) => journal,
         Err(fault) => return Err(fault),
     };
-    match journal.reserve(texts.length(), size) {
-        Ok(()) => {}
-        Err(Memory) => return Err(KeeperFault::Memory),
-    }
     match append_all(disk, &mut journal, &texts) {
         Ok(()) => Ok((core, journal)),
         Err(DiskFault) => Err(KeeperFault::Disk),

@@ -80,10 +80,11 @@ impl<C: LedgerCore, D: Disk> Kept<C, D> {
     /// Writes a new ledger into the area `Ledger` of a disk, over what stood there. The disk is handed back where that failed.
     ///
     /// The area is cut to nothing, an empty journal is opened there, and each payload of the new ledger is appended; no other call is made.
-    /// After a stop, or after `Disk`, the area has what stood there before or what a cut leaves of it, or it stands for a front of these payloads.
+    /// After a stop, or after `Disk`, the area has what stood there before or what a cut leaves of it, or it stands for a prefix of these payloads.
     ///
-    /// `Disk` comes only where the disk's count of faults rose. `Memory` comes before the first call on the disk, or from the opening behind the cut, or for the journal's room
-    /// behind that: the area is then as it was, or without a record. `Damaged` comes only from that opening, and never over a disk that tells, whose area is empty behind the cut.
+    /// `Disk` comes only where the disk's count of faults rose. `Memory` comes before the first call on the disk where the ledger or its payloads find none: the area is then as it was.
+    /// After the cut it comes only from the opening, for the bytes that are read, or for their list with the room for the payloads: the area is then empty.
+    /// `Damaged` comes only from that opening, after its read, and never over a disk that tells, whose area is empty after the cut.
     pub fn found(alloc: Global, disk: D, genesis: &Genesis) -> Result<Kept<C, D>, Unopened<D>>
         ensures found { IfOk result (λ k. (C.book k.core ≡ founded genesis.now) × (k.broken ≡ false) × Rests (D.told k.disk) k.journal.held × IfSome (D.told k.disk) (λ t. k.journal.held.payloads ≡ ledger_payloads C.KIND genesis.now [])) }
         ensures leaves { IfOk result (λ k. IfSome (D.told k.disk) (λ t. Leaves C.KIND k.journal.held.payloads (C.book k.core))) }

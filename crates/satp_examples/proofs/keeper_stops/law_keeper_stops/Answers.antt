@@ -1,4 +1,4 @@
-use Rattle.std.proofs.Common.{◌≡◌, ◌<◌, ◌≤◌, ℕ, zero, suc, false, List, [], ◌∷◌, Option, Some, None, take, refl, sym, ap, ◌∙◌, subst, inl, inr, arith, lit≤, lit<, rules}
+use Rattle.std.proofs.Common.{◌≡◌, ◌⊎◌, ◌<◌, ◌≤◌, ℕ, zero, suc, false, List, [], ◌∷◌, Option, Some, None, take, refl, sym, ap, ◌∙◌, subst, inl, inr, arith, lit≤, lit<, rules}
 use Rattle.std.specs.List.{flat_map}
 use Rattle.std.specs.Option.{option_map_or}
 use Rattle.std.specs.Prelude.{slice_index}
@@ -135,11 +135,11 @@ after_the_cut e (zero, call, at, fails) = let bad : 2 ≡ 1 = counts call _ _ fa
 after_the_cut e (suc zero, call, at, fails) = second_fails e call at fails
 after_the_cut e (suc (suc n), call, at, fails) = absurd (two_more _ (counts call _ _ fails))
 
-no_memory_behind : ¬ IsUnfounded 10 founding keeper.Memory
-no_memory_behind (inl e) = let bad : 10 ≡ 0 = ap count e in omega (arith, bad)
-no_memory_behind (inr (inl e)) = let bad : 10 ≡ 3 = ap count e in omega (arith, bad)
-no_memory_behind (inr (inr (inl e))) = let bad : 10 ≡ 4 = ap count e in omega (arith, bad)
-no_memory_behind (inr (inr (inr e))) = let bad : 10 ≡ 6 = ap count e in omega (arith, bad)
+-- want of memory comes after no call, or after three or four
+wants_at : (calls : ℕ) (events : List Event) → IsUnfounded calls events keeper.Memory → (risen 0 calls ≡ 0) ⊎ (risen 0 calls ≡ 3) ⊎ (risen 0 calls ≡ 4)
+wants_at calls events (inl e) = inl (ap count e)
+wants_at calls events (inr (inl e)) = inr (inl (ap count e))
+wants_at calls events (inr (inr e)) = inr (inr (ap count e))
 
 cut_failed : FailsToFound 1 (Cut Ledger 0 ∷ [])
 cut_failed = (0, Some (Cut Ledger 0), refl, (Cut Ledger 0 ∷ [], inr (inl refl), refl))
@@ -151,14 +151,17 @@ returns-clause-unfounded c = record {
   at_the_look = (2, None, refl, refl);
   at_the_append = (6, Some (Wrote Ledger 1 (0 ∷ 1 ∷ 100 ∷ 0 ∷ [])), refl, ([], inl refl, refl));
   no_memory_at_once = inl refl;
-  no_memory_behind_the_opening = inr (inr (inr refl));
-  damaged_where_nothing_is_told = (refl, (damaged, tt, is_damaged, refl));
+  no_memory_for_the_bytes = inr (inl refl);
+  no_memory_for_the_list_and_the_room = inr (inr refl);
+  damaged_where_nothing_is_told = (refl, (damaged, is_damaged), refl);
   not_failed_without_a_call = λ h. unmarked _ filled filled refl h;
   not_failed_where_all_succeeded = λ h. unmarked _ filled _ refl h;
   not_with_one_call_too_few = one_call_too_few;
   not_without_the_sync_of_the_cut = λ h. let bad = after_the_cut _ h in absurd cc;
   not_on_another_area = λ h. let bad = after_the_cut _ h in absurd cc;
-  not_without_memory_behind_the_record = no_memory_behind;
+  not_without_memory_after_the_cut = λ h. omega (arith, wants_at 1 _ h);
+  not_without_memory_after_the_opening = λ h. omega (arith, wants_at 6 _ h);
+  not_without_memory_behind_the_record = λ h. omega (arith, wants_at 10 _ h);
   not_damaged_where_it_is_told = λ at h. let bad = h.0 in absurd cc;
   not_broken = λ new h. h;
 }

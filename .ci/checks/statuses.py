@@ -1,4 +1,4 @@
-"""Runs the built program on words, streams and memory of each kind, and compares status, output and error line."""
+"""Runs the built program on words, inputs, streams and memory of each kind, and compares status, output and error line."""
 
 import os
 import resource
@@ -16,6 +16,13 @@ RECEIPT = (
     b'{"kind":"proposal-receipt","previous":"1-5oB4GRpk101kl5mqXRbSh9wlRDiJOFM66Fqtbj_fI","receiver":"alpha",'
     b'"sender":"beta","sequence":2,"session":"alpha.1","version":1}\n'
 )
+SIGNED = (
+    b"eyJhbGciOiJIUzI1NiJ9.eyJraW5kIjoidHJhbnNmZXItcHJvcG9zYWwiLCJwcmV2aW91cyI6IkFBQUFBQUFBQUFBQUFBQUFBQUFBQUFBQUFBQUFBQUFBQUFB"
+    b"QUFBQUFBQUEiLCJyZWNlaXZlciI6ImJldGEiLCJzZW5kZXIiOiJhbHBoYSIsInNlcXVlbmNlIjoxLCJzZXNzaW9uIjoiYWxwaGEuMSIsInRlcm1zIjp7ImFt"
+    b"b3VudCI6MjUwLCJhc3NldCI6ImdvbGQiLCJiZW5lZmljaWFyeSI6ImJvYiIsIm9yaWdpbmF0b3IiOiJhbm4ifSwidmVyc2lvbiI6MX0.W-lyReP7A9ab2bM2"
+    b"6JT9xgx6ZO0qsjJXWWHXhi4eB6c"
+)
+KEY = "AAECAwQFBgcICQoLDA0ODxAREhMUFRYXGBkaGxwdHh8"
 GENESIS = b"asset gold 10\n"
 REFUSED = (2, b"", b"satp: words refused\n")
 NO_MEMORY = (10, b"", b"satp: no memory\n")
@@ -23,7 +30,7 @@ OPTIONS = [
     ("--name", "alpha"),
     ("--peer", "beta"),
     ("--at", "127.0.0.1:7002"),
-    ("--key", "AAECAwQFBgcICQoLDA0ODxAREhMUFRYXGBkaGxwdHh8"),
+    ("--key", KEY),
     ("--ledger", "accounts"),
 ]
 
@@ -69,7 +76,25 @@ def words():
     want("a word that is no UTF-8", run([b"answer", b"beta\xff"], PROPOSAL), REFUSED)
     want("a second word that is no UTF-8", run([b"answer", b"beta", b"\xff"], PROPOSAL), REFUSED)
     for name in ("nine", "fifteen"):
-        want(f"the directory of refused words", os.path.exists(folder(name)), False)
+        want("the directory of refused words", os.path.exists(folder(name)), False)
+
+
+def refused(line):
+    """Status 5, and this line."""
+    return 5, b"", b"satp: " + line + b"\n"
+
+
+def lines():
+    """The line of each command, and those of its refusals."""
+    check = ["check", "--key", KEY]
+    want("a text", run(["check"], PROPOSAL), (0, b"text transfer-proposal 242 bytes\n", b""))
+    want("a signed text", run(check, SIGNED), (0, b"jws transfer-proposal 388 bytes\n", b""))
+    want("a text that isn't signed", run(check, PROPOSAL), refused(b"input refused: jws parts 2"))
+    want("a message that is no proposal", run(["answer", "alpha"], RECEIPT), refused(b"input refused: kind"))
+    want("no text", run(["answer", "beta"]), refused(b"input refused: json"))
+    want("a text without members", run(["check"], b'{"kind": "recover"}'), refused(b"input refused: member last"))
+    want("no capital", run(joined("lines"), b"asset gold 0\n"), refused(b"genesis line 1 refused"))
+    want("a long genesis", run(joined("lines"), b"x" * 65_537), refused(b"input too long"))
 
 
 def streams():
@@ -117,6 +142,7 @@ def memory():
 
 
 words()
+lines()
 streams()
 wants = memory()
 print(f"statuses: passed; {wants} limits left too little memory for the words")

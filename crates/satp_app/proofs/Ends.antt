@@ -1,9 +1,8 @@
 -- How a command ends that replies to the text on its input, from what its parts say.
 use Rattle.std.proofs.Common.{◌≡◌, ◌⊎◌, inl, inr, ℕ, ◌+◌, ◌<◌, ◌≤◌, List, length, take, Option, Some, None, Result, Ok, Err, refl, ap, subst, sym, ◌∙◌, arith}
 use Rattle.std.specs.Prelude.{IfSome, IfOk}
-use Rattle.satp_base.specs.Streams.{Rose}
 use Rattle.satp_base.specs.declared.text.Memory as base
-use Rattle.satp_app.specs.Outside.{Printed, PrintedPart, ReadTo, ReadWithin, StreamsState}
+use Rattle.satp_app.specs.Outside.{Printed, PrintedPart, ReadTo, StreamsState}
 use Rattle.satp_app.specs.Streams.{Concluded, Form, IsInput, IsLong, Replies, StreamRule}
 use Rattle.satp_app.specs.declared.outcome.Outcome.{Outcome}
 use Rattle.satp_app.specs.declared.outcome.Outcome.TheVariants.{Done, WordsRefused, InputLong, Refused, Memory, InputFailed, OutputFailed}
@@ -16,9 +15,6 @@ pub record IsWhole (form : Form) : Type 0 where
   pub long : (bytes : List ℕ) → form.longest < length (form.text_of (take (form.most + 1) bytes)) → form.longest < length (form.text_of bytes)
 
 module _ (form : Form) (says : List ℕ → Reply → Type 0) (whole : IsWhole form) (b a : StreamsState) (bytes : List ℕ) (read : ReadTo (form.most + 1) b.input a.input) (held : IfSome b.input.left (λ told. bytes ≡ take (form.most + 1) told)) where
-  within : ReadWithin (form.most + 1) b.input a.input
-  within = (form.most + 1, omega arith, read.1)
-
   -- the text was longer than the command reads
   pub too_long : a.out ≡ b.out → form.longest < length (form.text_of bytes) → StreamRule form says b a InputLong
   too_long out long = (read, by_input b.input.left refl held, out)
@@ -49,4 +45,4 @@ module _ (form : Form) (says : List ℕ → Reply → Type 0) (whole : IsWhole f
   replied text is short (Ok (Lines lines)) outcome said (inl (o, printed)) = subst (λ o. StreamRule form says b a o) (sym o) (read, (lines, replies text is short (Lines lines) said, printed))
   replied text is short (Ok (Lines lines)) outcome said (inr (o, printed)) = subst (λ o. StreamRule form says b a o) (sym o) (read, (lines, replies text is short (Lines lines) said, printed))
   replied text is short (Ok (Refuses refusal)) outcome said (o, out) = subst (λ o. StreamRule form says b a o) (sym o) (read, replies text is short (Refuses refusal) said, out)
-  replied text is short (Err memory) outcome said (o, out) = subst (λ o. StreamRule form says b a o) (sym o) (read.0, within, out)
+  replied text is short (Err memory) outcome said (o, out) = subst (λ o. StreamRule form says b a o) (sym o) (inr read, out)

@@ -1,7 +1,8 @@
+mod GivenWords
 pub mod Reading
 pub mod Writing
 pub mod Ends
 pub mod Inputs
 pub mod Lines
 pub mod Genesis
-pub mod Vacant
+pub mod SetUpEnds

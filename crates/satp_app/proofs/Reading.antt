@@ -1,9 +1,11 @@
 -- Bytes that are read piece by piece.
-use Rattle.std.proofs.Common.{◌≡◌, ℕ, zero, suc, ◌+◌, ◌<◌, ◌≤◌, List, [], ◌∷◌, ◌++◌, length, take, drop, Option, Some, None, refl, ap, subst, sym, ◌∙◌, arith, append_assoc, append-nil, length-append, length-take}
-use Rattle.std.specs.Prelude.{IfSome}
+use Rattle.std.proofs.Common.{◌≡◌, ℕ, zero, suc, ◌+◌, ◌<◌, ◌≤◌, List, [], ◌∷◌, ◌++◌, length, take, drop, Option, Some, None, refl, ap, subst, sym, ◌∙◌, arith, append_assoc, append-nil, length-append, length-take, Ok}
+use Rattle.std.specs.Prelude.{◌==◌, true, false, IfSome}
+use Rattle.std.proofs.lemmas.Bool.{ne_eqb}
 use Rattle.std.proofs.lemmas.List.{take-append-drop}
-use Rattle.satp_base.specs.Streams.{TakesFront}
-use Rattle.satp_app.specs.Outside.{ReadWithin, SourceState}
+use Rattle.satp_base.specs.Streams.{Rose, TakesFront, is_last}
+use Rattle.satp_base.specs.declared.stream.SourceFault.{SourceFault}
+use Rattle.satp_app.specs.Outside.{FailsToRead, ReadWithin, SourceState}
 
 -- the bytes are those held, and those that the source has left
 abbrev pub HeldOf : Option (List ℕ) → List ℕ → Option (List ℕ) → Type 0
@@ -37,3 +39,12 @@ read_within most b a now held into n h t within =
   where
     taken_within : (k : ℕ) (xs : List ℕ) → length (take k xs) ≤ k
     taken_within k xs = omega (arith, length-take k xs)
+
+-- a read of some bytes is not the last
+pub not_last : (room n : ℕ) → 0 < n → is_last {E = SourceFault} room (Ok n) ≡ false
+not_last room n some = let not_none : (n == 0) ≡ false = ne_eqb _ _ (λ e. omega (arith, some, e)) in rw not_none refl
+
+-- a read failed after these bytes
+pub read_fails : (most : ℕ) (b m a : SourceState) (held : List ℕ) → HeldOf b.left held m.left → length held ≤ most → m.faults ≡ b.faults → a.left ≡ m.left → a.over ≡ true → Rose m.faults a.faults → FailsToRead most b a
+read_fails most b m a held h within faults left over rose =
+    (subst (λ n. Rose n a.faults) faults rose, over, held_within most b a held (subst (λ (o : Option (List ℕ)). HeldOf b.left held o) (sym left) h) within)

@@ -1,27 +1,20 @@
 -- The command `init`: a gateway is set up in a directory, with the genesis on the input.
 use Rattle.std.specs.Prelude.{◌≡◌, ◌≢◌, ◌⊎◌, ℕ, ◌+◌, ◌<◌, ◌≤◌, List, [], ◌∷◌, ◌++◌, length, codes, Option, None, IfSome, option_map, Result, Ok, Err}
-use Rattle.satp_base.specs.Calls.{MayMiss, Told, entered}
+use Rattle.satp_base.specs.Calls.{MayMiss, enter_failed, entered}
 use Rattle.satp_base.specs.Founding.{Founding}
-use Rattle.satp_base.specs.Format.{Stands}
 use Rattle.satp_base.specs.GenesisText.{AcceptsLine, most_bytes, nothing}
 use Rattle.satp_base.specs.Lines.{Fails, IsLines}
 use Rattle.satp_base.specs.Streams.{Rose}
-use Rattle.satp_base.specs.Trail.{seen}
 use Rattle.satp_base.specs.Values.{name_text}
 use Rattle.satp_base.specs.declared.address.Address.{Address}
-use Rattle.satp_base.specs.declared.area.Area.TheVariants.{JournalA}
 use Rattle.satp_base.specs.declared.ledger.LedgerKind.{LedgerKind}
 use Rattle.satp_base.specs.declared.lines.LinesFault.TheVariants as lines
 use Rattle.satp_base.specs.declared.name.Name.{Name}
-use Rattle.satp_journal.specs.Opening.{OpenAnswers}
-use Rattle.satp_journal.specs.State.{JournalState}
-use Rattle.satp_journal.specs.declared.fault.JournalFault.{JournalFault}
-use Rattle.satp_journal.specs.declared.fault.JournalFault.TheVariants as journal
 use Rattle.satp_records.specs.declared.stored.Setup.{Setup}
-use Rattle.satp_gateway.specs.SettingUp.{SetUpAnswers, Tells, plan, tells}
+use Rattle.satp_gateway.specs.SettingUp.{IsVacant, NotVacant, Tells, VacantAnswers, plan, tells}
 use Rattle.satp_gateway.specs.declared.fault.SetUpFault.{SetUpFault}
 use Rattle.satp_gateway.specs.declared.fault.SetUpFault.TheVariants as fault
-use Rattle.satp_app.specs.Outside.{OutsideState, Printed, PrintedPart, ReadTo, ReadWithin, SiteState, SourceState}
+use Rattle.satp_app.specs.Outside.{FailsToRead, OutsideState, Printed, PrintedPart, ReadPart, ReadTo, SiteState, SourceState}
 use Rattle.satp_app.specs.Streams.{IsInput}
 use Rattle.satp_app.specs.declared.outcome.Outcome.{Outcome}
 use Rattle.satp_app.specs.declared.outcome.Outcome.TheVariants.{Done, WordsRefused, InputLong, Refused, Memory, InputFailed, OutputFailed, GenesisRefused, SiteFailed, JournalDamaged, GatewayThere}
@@ -41,42 +34,30 @@ setup_of name peer at key = record { name = name; peer = peer; at = at; key = ke
 -- ---- the journal in the directory
 
 -- the directory was entered
-pub record Enters (dir : List ℕ) (b a : SiteState) : Type 0 where
+pub record Enters (dir : List ℕ) (b a : Tells) : Type 0 where
   pub told : a.told ≡ option_map (entered dir) b.told
   pub book : a.book ≡ b.book
 
--- it was not: the call is told by name, or only counted where no memory was found to note it
-pub record FailsToEnter (dir : List ℕ) (b a : SiteState) : Type 0 where
-  pub told : MayMiss (entered dir) b.told a.told
+-- it was not: the failed call is told by name, or only counted where no memory was found to note it
+pub record FailsToEnter (dir : List ℕ) (b a : Tells) : Type 0 where
+  pub told : MayMiss (enter_failed dir) [] b.told a.told
   pub book : a.book ≡ b.book
 
--- the opening of the journal answered this
-pub record Opening (b a : SiteState) (answer : Result JournalState JournalFault) : Type 0 where
-  pub told : OpenAnswers JournalA b.told a.told answer
-  pub book : a.book ≡ b.book
+-- the directory was entered, and then the journal there was opened, which has no record
+abbrev pub IsReady : List ℕ → Tells → Tells → Type 0
+IsReady dir b a = (inside : Tells) × Enters dir b inside × IsVacant inside a
 
--- the journal was opened, and has no record
-abbrev pub IsVacant : SiteState → SiteState → Type 0
-IsVacant b a = (held : JournalState) × (held.held.payloads ≡ []) × Opening b a (Ok held)
+abbrev pub set_up_outcome : SetUpFault → Outcome
+set_up_outcome fault.Already = GatewayThere
+set_up_outcome (fault.Damaged at) = JournalDamaged at
+set_up_outcome fault.Site = SiteFailed
+set_up_outcome fault.Memory = Memory
 
--- it was not opened, or has a record
-abbrev pub NotVacant : SiteState → SiteState → Outcome → Type 0
-NotVacant b a SiteFailed = Opening b a (Err journal.Disk)
-NotVacant b a (JournalDamaged at) = Opening b a (Err (journal.Damaged at))
-NotVacant b a GatewayThere = (held : JournalState) × (held.held.payloads ≢ []) × Opening b a (Ok held)
-NotVacant b a Memory = Opening b a (Err journal.Memory)
-NotVacant b a _ = ⊥
-
--- the directory was entered, and the journal there has no record
-abbrev pub IsReady : List ℕ → SiteState → SiteState → Type 0
-IsReady dir b a = (inside : SiteState) × Enters dir b inside × IsVacant inside a
-
-abbrev pub NotReady : List ℕ → SiteState → SiteState → Outcome → Type 0
-NotReady dir b a outcome = (FailsToEnter dir b a × (outcome ≡ SiteFailed)) ⊎ ((inside : SiteState) × Enters dir b inside × NotVacant inside a outcome)
-
--- where the site tells, the area of the journal reads as one without a record
-abbrev pub ReadsEmpty : Option Told → Type 0
-ReadsEmpty told = IfSome told (λ t. Stands (seen t.trail JournalA) [])
+-- the directory was not entered; or it was, and then the journal was not opened or has a record
+abbrev pub NotReady : List ℕ → Tells → Tells → Outcome → Type 0
+NotReady dir b a outcome =
+    (FailsToEnter dir b a × (outcome ≡ SiteFailed))
+    ⊎ ((inside : Tells) × (fault : SetUpFault) × Enters dir b inside × NotVacant fault inside a × (outcome ≡ set_up_outcome fault))
 
 -- ---- the genesis on the input
 
@@ -97,8 +78,8 @@ IsRefusedAt number bytes = Fails AcceptsLine most_bytes bytes nothing (lines.Lin
 abbrev pub NotRead : SourceState → SourceState → Outcome → Type 0
 NotRead b a InputLong = Reads b a (λ bytes. most_bytes < length bytes)
 NotRead b a (GenesisRefused number) = Reads b a (IsRefusedAt number)
-NotRead b a InputFailed = Rose b.faults a.faults × ReadWithin (most_bytes + 1) b a
-NotRead b a Memory = (a.faults ≡ b.faults) × ReadWithin (most_bytes + 1) b a
+NotRead b a InputFailed = FailsToRead (most_bytes + 1) b a
+NotRead b a Memory = ReadPart (most_bytes + 1) b a ⊎ ReadTo (most_bytes + 1) b a
 NotRead b a _ = ⊥
 
 -- ---- the set-up
@@ -106,27 +87,19 @@ NotRead b a _ = ⊥
 abbrev pub tells_of : SiteState → Tells
 tells_of s = tells s.told s.book
 
--- the genesis was read behind the opening of the journal, and the set-up answered this
+-- the genesis was read after the opening of the journal, and the set-up over the open journal answered this
 pub record SetsUp (o : Order) (b a : OutsideState) (answer : Result (Unit {0}) SetUpFault) : Type 0 where
-  pub ready : SiteState
-  pub is_ready : IsReady o.dir b.site ready
+  pub ready : Tells
+  pub is_ready : IsReady o.dir (tells_of b.site) ready
   pub genesis : Founding
   pub read : Reads b.streams.input a.streams.input (IsGenesisText genesis)
-  pub answered : SetUpAnswers (plan o.setup o.kind genesis) (tells_of ready) (tells_of a.site) answer
+  pub answered : VacantAnswers (plan o.setup o.kind genesis) ready (tells_of a.site) answer
 
--- It failed. A journal that was without a record stays so until then, where the site tells.
+-- it failed
 abbrev pub NotSetUp : Order → OutsideState → OutsideState → Outcome → Type 0
 NotSetUp o b a SiteFailed = SetsUp o b a (Err fault.Site)
 NotSetUp o b a Memory = SetsUp o b a (Err fault.Memory)
-NotSetUp o b a (JournalDamaged at) = SetsUp o b a (Err (fault.Damaged at)) × (b.site.told ≡ None)
-NotSetUp o b a GatewayThere = SetsUp o b a (Err fault.Already) × (b.site.told ≡ None)
 NotSetUp o b a _ = ⊥
-
-abbrev pub set_up_outcome : SetUpFault → Outcome
-set_up_outcome fault.Already = GatewayThere
-set_up_outcome (fault.Damaged at) = JournalDamaged at
-set_up_outcome fault.Site = SiteFailed
-set_up_outcome fault.Memory = Memory
 
 abbrev pub ready_line : Order → List ℕ
 ready_line o = name_text o.setup.name ++ (codes " ready" ++ 10 ∷ [])
@@ -142,9 +115,9 @@ IsSetUp o b a _ = ⊥
 -- The steps at which `init` ends, in their order.
 pub data InitEnds (o : Order) (b a : OutsideState) (outcome : Outcome) : Type 0 where
   -- the directory and its journal, before any of the input is read
-  not_ready : a.streams ≡ b.streams → NotReady o.dir b.site a.site outcome → InitEnds o b a outcome
+  not_ready : a.streams ≡ b.streams → NotReady o.dir (tells_of b.site) (tells_of a.site) outcome → InitEnds o b a outcome
   -- the input
-  not_read : IsReady o.dir b.site a.site → NotRead b.streams.input a.streams.input outcome → a.streams.out ≡ b.streams.out → InitEnds o b a outcome
+  not_read : IsReady o.dir (tells_of b.site) (tells_of a.site) → NotRead b.streams.input a.streams.input outcome → a.streams.out ≡ b.streams.out → InitEnds o b a outcome
   -- the set-up
   not_set_up : NotSetUp o b a outcome → a.streams.out ≡ b.streams.out → InitEnds o b a outcome
   -- the output
@@ -154,3 +127,5 @@ pub record InitRule (o : Order) (b a : OutsideState) (outcome : Outcome) : Type 
   pub ends : InitEnds o b a outcome
   pub later : b.site.faults ≤ a.site.faults
   pub cause : outcome ≡ SiteFailed → Rose b.site.faults a.site.faults
+  -- no other end hides a fault of the site
+  pub kept : outcome ≢ SiteFailed → a.site.faults ≡ b.site.faults

@@ -6,3 +6,4 @@ pub mod Answer
 pub mod Check
 pub mod Init
 pub mod Commands
+pub mod Arguments

@@ -1,9 +1,8 @@
 -- A command that reads a text from the input and prints lines.
 use Rattle.std.specs.Prelude.{◌≡◌, ◌⊎◌, ℕ, ◌+◌, ◌<◌, ◌≤◌, List, length, take, Option, None, Some, IfSome, MatchOption, Result, MatchResult, Ok, Err}
 use Rattle.std.specs.Borrow.{Bor}
-use Rattle.satp_base.specs.Streams.{Rose}
 use Rattle.satp_base.specs.declared.text.Memory as base
-use Rattle.satp_app.specs.Outside.{Printed, PrintedPart, ReadTo, ReadWithin, SinkState, SourceState, StreamsState}
+use Rattle.satp_app.specs.Outside.{FailsToRead, Printed, PrintedPart, ReadPart, ReadTo, SinkState, SourceState, StreamsState}
 use Rattle.satp_app.specs.declared.outcome.Outcome.{Outcome}
 use Rattle.satp_app.specs.declared.outcome.Outcome.TheVariants.{Done, WordsRefused, InputLong, Refused, Memory, InputFailed, OutputFailed, GenesisRefused, SiteFailed, JournalDamaged, GatewayThere}
 use Rattle.satp_app.specs.declared.reply.Reply.{Reply}
@@ -39,8 +38,8 @@ StreamRule form says b a Done = ReadTo (form.most + 1) b.input a.input × ((line
 StreamRule form says b a OutputFailed = ReadTo (form.most + 1) b.input a.input × ((lines : List ℕ) × Replies form says b (Lines lines) × PrintedPart lines b.out a.out)
 StreamRule form says b a (Refused refusal) = ReadTo (form.most + 1) b.input a.input × Replies form says b (Refuses refusal) × (a.out ≡ b.out)
 StreamRule form says b a InputLong = ReadTo (form.most + 1) b.input a.input × IsLong form b × (a.out ≡ b.out)
-StreamRule form says b a InputFailed = Rose b.input.faults a.input.faults × ReadWithin (form.most + 1) b.input a.input × (a.out ≡ b.out)
-StreamRule form says b a Memory = (a.input.faults ≡ b.input.faults) × ReadWithin (form.most + 1) b.input a.input × (a.out ≡ b.out)
+StreamRule form says b a InputFailed = FailsToRead (form.most + 1) b.input a.input × (a.out ≡ b.out)
+StreamRule form says b a Memory = (ReadPart (form.most + 1) b.input a.input ⊎ ReadTo (form.most + 1) b.input a.input) × (a.out ≡ b.out)
 StreamRule form says b a WordsRefused = ⊥
 StreamRule form says b a (GenesisRefused number) = ⊥
 StreamRule form says b a SiteFailed = ⊥
@@ -53,7 +52,7 @@ StreamRule form says b a GatewayThere = ⊥
 abbrev pub ReadRule : ℕ → SourceState → SourceState → Result (List ℕ) Outcome → Type 0
 ReadRule most b a result = MatchResult result
     (λ bytes. ReadTo (most + 1) b a × IfSome b.left (λ told. bytes ≡ take (most + 1) told))
-    (λ outcome. ReadWithin (most + 1) b a × (((outcome ≡ InputFailed) × Rose b.faults a.faults) ⊎ ((outcome ≡ Memory) × (a.faults ≡ b.faults))))
+    (λ outcome. ((outcome ≡ InputFailed) × FailsToRead (most + 1) b a) ⊎ ((outcome ≡ Memory) × ReadPart (most + 1) b a))
 
 -- the text on what was read
 abbrev pub TextRule : Form → List ℕ → Option (Bor (List ℕ)) → Type 0

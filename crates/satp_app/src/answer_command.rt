@@ -1,4 +1,4 @@
-ghost use Rattle.std.specs.Prelude.{◌≡◌, IfOk};
+ghost use Rattle.std.specs.Prelude.{◌≡◌, false, IfOk};
 ghost use Rattle.satp_app.specs.Answer.{Answers, Due, answer_says, terms_proposed};
 ghost use Rattle.satp_app.specs.Outside.{sink, source, streams};
 ghost use Rattle.satp_app.specs.Streams.{StreamRule};
@@ -21,9 +21,11 @@ pub(crate) fn answer<I: Source, K: Sink>(
     input: &mut I,
     out: &mut K,
 ) -> Outcome
+    requires over { I.is_over input.old ≡ false }
+    requires failed { K.has_failed out.old ≡ false }
     ensures { StreamRule text_form (answer_says name)
-        (streams (source I.faults I.left input.old) (sink K.faults K.taken out.old))
-        (streams (source I.faults I.left input.new) (sink K.faults K.taken out.new))
+        (streams (source I.faults I.left I.is_over input.old) (sink K.faults K.taken K.has_failed out.old))
+        (streams (source I.faults I.left I.is_over input.new) (sink K.faults K.taken K.has_failed out.new))
         result }
 {
     match read_to(alloc, input, LONGEST_INPUT) {

@@ -1,4 +1,4 @@
-ghost use Rattle.std.specs.Prelude.{◌≡◌, IfOk};
+ghost use Rattle.std.specs.Prelude.{◌≡◌, false, IfOk};
 ghost use Rattle.satp_app.specs.Check.{check_says, line, signed_says};
 ghost use Rattle.satp_app.specs.Outside.{sink, source, streams};
 ghost use Rattle.satp_app.specs.Streams.{StreamRule};
@@ -15,9 +15,11 @@ use std::alloc::Global;
 
 /// Reads a canonical text and prints its kind and length.
 pub(crate) fn check<I: Source, K: Sink>(alloc: Global, input: &mut I, out: &mut K) -> Outcome
+    requires over { I.is_over input.old ≡ false }
+    requires failed { K.has_failed out.old ≡ false }
     ensures { StreamRule text_form check_says
-        (streams (source I.faults I.left input.old) (sink K.faults K.taken out.old))
-        (streams (source I.faults I.left input.new) (sink K.faults K.taken out.new))
+        (streams (source I.faults I.left I.is_over input.old) (sink K.faults K.taken K.has_failed out.old))
+        (streams (source I.faults I.left I.is_over input.new) (sink K.faults K.taken K.has_failed out.new))
         result }
 {
     match read_to(alloc, input, LONGEST_INPUT) {
@@ -36,9 +38,11 @@ pub(crate) fn check_signed<I: Source, K: Sink>(
     input: &mut I,
     out: &mut K,
 ) -> Outcome
+    requires over { I.is_over input.old ≡ false }
+    requires failed { K.has_failed out.old ≡ false }
     ensures { StreamRule text_form (signed_says key.now)
-        (streams (source I.faults I.left input.old) (sink K.faults K.taken out.old))
-        (streams (source I.faults I.left input.new) (sink K.faults K.taken out.new))
+        (streams (source I.faults I.left I.is_over input.old) (sink K.faults K.taken K.has_failed out.old))
+        (streams (source I.faults I.left I.is_over input.new) (sink K.faults K.taken K.has_failed out.new))
         result }
 {
     match read_to(alloc, input, LONGEST_INPUT) {

@@ -1,17 +1,14 @@
-ghost use Rattle.std.specs.Prelude.{◌≡◌, ◌≢◌, ◌≤◌, ◌++◌, ◌∷◌, [], codes, length, Err, IfErr, OnOk, MatchResult};
-ghost use Rattle.satp_app.specs.Init.{InitRule, IsReady, IsVacant, NotReady, NotVacant, NotRead, Reads, ReadsEmpty, IsGenesisText, order, set_up_outcome};
-ghost use Rattle.satp_app.specs.Outside.{Says, outside, sink, site_state, source, streams};
-ghost use Rattle.satp_base.specs.Streams.{Rose};
-ghost use Rattle.satp_base.specs.Values.{name_text};
+ghost use Rattle.std.specs.Prelude.{◌≡◌, ◌≢◌, ◌≤◌, false, length, MatchResult};
+ghost use Rattle.satp_app.specs.Init.{InitRule, NotRead, Reads, IsGenesisText, order, set_up_outcome};
+ghost use Rattle.satp_app.specs.Outside.{outside, sink, site_state, source, streams};
 
 use crate::outcome::Outcome;
 use crate::report::say_both;
 use crate::streams::read_to;
 use satp_base::{
-    Area, DiskFault, Genesis, GenesisFault, LedgerKind, Name, Sink, SinkFault, Site, Source, Text,
+    DiskFault, Genesis, GenesisFault, LedgerKind, Name, Sink, SinkFault, Site, Source, Text,
 };
-use satp_gateway::{Gateway, SetUpFault};
-use satp_journal::{Journal, JournalFault};
+use satp_gateway::{SetUpFault, Vacancy};
 use satp_records::Setup;
 use std::alloc::Global;
 
@@ -28,20 +25,26 @@ pub(crate) fn init<S: Site, I: Source, K: Sink>(
     requires key_least { 32 ≤ length setup.now.key }
     requires key_most { length setup.now.key ≤ 64 }
     requires peer { setup.now.name ≢ setup.now.peer }
+    requires over { I.is_over input.old ≡ false }
+    requires failed { K.has_failed out.old ≡ false }
     ensures { InitRule (order dir.now setup.now kind)
-        (outside (streams (source I.faults I.left input.old) (sink K.faults K.taken out.old)) (site_state S.faults S.told S.book site.old))
-        (outside (streams (source I.faults I.left input.new) (sink K.faults K.taken out.new)) (site_state S.faults S.told S.book site.new))
+        (outside (streams (source I.faults I.left I.is_over input.old) (sink K.faults K.taken K.has_failed out.old)) (site_state S.faults S.told S.book site.old))
+        (outside (streams (source I.faults I.left I.is_over input.new) (sink K.faults K.taken K.has_failed out.new)) (site_state S.faults S.told S.book site.new))
         result }
 {
-    match enter_vacant(alloc, dir, site) {
+    match site.enter(dir.bytes()) {
         Ok(()) => {}
-        Err(outcome) => return outcome,
+        Err(DiskFault) => return Outcome::SiteFailed,
     }
+    let vacancy = match Vacancy::open(alloc, site) {
+        Ok(vacancy) => vacancy,
+        Err(fault) => return not_set_up(fault),
+    };
     let genesis = match read_genesis(alloc, input) {
         Ok(genesis) => genesis,
         Err(outcome) => return outcome,
     };
-    match Gateway::set_up(alloc, site, setup, kind, &genesis) {
+    match vacancy.set_up(alloc, site, setup, kind, &genesis) {
         Ok(()) => {}
         Err(fault) => return not_set_up(fault),
     }
@@ -51,45 +54,12 @@ pub(crate) fn init<S: Site, I: Source, K: Sink>(
     }
 }
 
-/// Enters a directory whose journal has no record.
-fn enter_vacant<S: Site>(alloc: Global, dir: &Text, site: &mut S) -> Result<(), Outcome>
-    ensures answers { MatchResult result
-        (λ _. IsReady dir.now (site_state S.faults S.told S.book site.old) (site_state S.faults S.told S.book site.new))
-        (NotReady dir.now (site_state S.faults S.told S.book site.old) (site_state S.faults S.told S.book site.new)) }
-    ensures empty { OnOk result (ReadsEmpty (S.told site.new)) }
-    ensures later { S.faults site.old ≤ S.faults site.new }
-    ensures cause { result ≡ Err Outcome.SiteFailed → Rose (S.faults site.old) (S.faults site.new) }
-{
-    match site.enter(dir.bytes()) {
-        Ok(()) => open_vacant(alloc, site),
-        Err(DiskFault) => Err(Outcome::SiteFailed),
-    }
-}
-
-/// Opens the journal, which has no record.
-fn open_vacant<S: Site>(alloc: Global, site: &mut S) -> Result<(), Outcome>
-    ensures answers { MatchResult result
-        (λ _. IsVacant (site_state S.faults S.told S.book site.old) (site_state S.faults S.told S.book site.new))
-        (NotVacant (site_state S.faults S.told S.book site.old) (site_state S.faults S.told S.book site.new)) }
-    ensures empty { OnOk result (ReadsEmpty (S.told site.new)) }
-    ensures later { S.faults site.old ≤ S.faults site.new }
-    ensures cause { result ≡ Err Outcome.SiteFailed → Rose (S.faults site.old) (S.faults site.new) }
-{
-    match Journal::open(alloc, site, Area::JournalA) {
-        Ok(journal) if journal.count() == 0 => Ok(()),
-        Ok(_) => Err(Outcome::GatewayThere),
-        Err(JournalFault::Damaged { at }) => Err(Outcome::JournalDamaged { at }),
-        Err(JournalFault::Memory) => Err(Outcome::Memory),
-        Err(JournalFault::Disk) => Err(Outcome::SiteFailed),
-        Err(JournalFault::Broken) => unreachable!(),
-    }
-}
-
 /// Reads the genesis on the input.
 fn read_genesis<I: Source>(alloc: Global, input: &mut I) -> Result<Genesis, Outcome>
+    requires { I.is_over input.old ≡ false }
     ensures { MatchResult result
-        (λ genesis. Reads (source I.faults I.left input.old) (source I.faults I.left input.new) (IsGenesisText genesis))
-        (NotRead (source I.faults I.left input.old) (source I.faults I.left input.new)) }
+        (λ genesis. Reads (source I.faults I.left I.is_over input.old) (source I.faults I.left I.is_over input.new) (IsGenesisText genesis))
+        (NotRead (source I.faults I.left I.is_over input.old) (source I.faults I.left I.is_over input.new)) }
 {
     let held = match read_to(alloc, input, Genesis::BYTES) {
         Ok(held) => held,

@@ -5,6 +5,7 @@
 #![tactic(auto)]
 
 mod answer_command;
+mod arguments;
 mod check_command;
 mod init_command;
 mod outcome;
@@ -13,6 +14,7 @@ mod report;
 mod streams;
 mod top;
 
+pub use arguments::run_arguments;
 pub use outcome::{Outcome, Refusal};
 pub use reply::Reply;
 pub use top::run;

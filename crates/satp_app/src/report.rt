@@ -1,4 +1,4 @@
-ghost use Rattle.std.specs.Prelude.{◌++◌, ◌∷◌, [], decimal};
+ghost use Rattle.std.specs.Prelude.{◌≡◌, false, ◌++◌, ◌∷◌, [], decimal};
 ghost use Rattle.satp_base.specs.Canonical.{member_text};
 ghost use Rattle.satp_app.specs.Outcomes.{canon_line, jws_line, line_of};
 ghost use Rattle.satp_app.specs.Outside.{Says, sink};
@@ -12,7 +12,8 @@ use satp_jws::JwsFault;
 
 /// Writes the line of an outcome; nothing where the work was done.
 pub(crate) fn report<E: Sink>(err: &mut E, outcome: Outcome) -> Result<(), SinkFault>
-    ensures { Says (line_of outcome) (sink E.faults E.taken err.old) (sink E.faults E.taken err.new) result }
+    requires { E.has_failed err.old ≡ false }
+    ensures { Says (line_of outcome) (sink E.faults E.taken E.has_failed err.old) (sink E.faults E.taken E.has_failed err.new) result }
 {
     match outcome {
         Outcome::Done => Ok(()),
@@ -38,7 +39,8 @@ pub(crate) fn report<E: Sink>(err: &mut E, outcome: Outcome) -> Result<(), SinkF
 
 /// The line of a text that is no canonical one.
 fn report_text<E: Sink>(err: &mut E, fault: CanonFault) -> Result<(), SinkFault>
-    ensures { Says (canon_line fault) (sink E.faults E.taken err.old) (sink E.faults E.taken err.new) result }
+    requires { E.has_failed err.old ≡ false }
+    ensures { Says (canon_line fault) (sink E.faults E.taken E.has_failed err.old) (sink E.faults E.taken E.has_failed err.new) result }
 {
     match fault {
         CanonFault::Long { length } => say_number(err, b"satp: input refused: long ", length),
@@ -54,7 +56,8 @@ fn report_text<E: Sink>(err: &mut E, fault: CanonFault) -> Result<(), SinkFault>
 
 /// The line of a text that is no compact JWS.
 fn report_signature<E: Sink>(err: &mut E, fault: JwsFault) -> Result<(), SinkFault>
-    ensures { Says (jws_line fault) (sink E.faults E.taken err.old) (sink E.faults E.taken err.new) result }
+    requires { E.has_failed err.old ≡ false }
+    ensures { Says (jws_line fault) (sink E.faults E.taken E.has_failed err.old) (sink E.faults E.taken E.has_failed err.new) result }
 {
     match fault {
         JwsFault::Parts { count } => say_number(err, b"satp: input refused: jws parts ", count),
@@ -71,14 +74,16 @@ fn report_signature<E: Sink>(err: &mut E, fault: JwsFault) -> Result<(), SinkFau
 
 /// Writes a line that ends with the name of a member.
 fn say_member<E: Sink>(err: &mut E, text: &[u8], which: MemberName) -> Result<(), SinkFault>
-    ensures { Says (text.now ++ (member_text which ++ 10 ∷ [])) (sink E.faults E.taken err.old) (sink E.faults E.taken err.new) result }
+    requires { E.has_failed err.old ≡ false }
+    ensures { Says (text.now ++ (member_text which ++ 10 ∷ [])) (sink E.faults E.taken E.has_failed err.old) (sink E.faults E.taken E.has_failed err.new) result }
 {
     say_line(err, text, which.text().as_bytes())
 }
 
 /// Writes a line that ends with a number.
 fn say_number<E: Sink>(err: &mut E, text: &[u8], number: usize) -> Result<(), SinkFault>
-    ensures { Says (text.now ++ (decimal number ++ 10 ∷ [])) (sink E.faults E.taken err.old) (sink E.faults E.taken err.new) result }
+    requires { E.has_failed err.old ≡ false }
+    ensures { Says (text.now ++ (decimal number ++ 10 ∷ [])) (sink E.faults E.taken E.has_failed err.old) (sink E.faults E.taken E.has_failed err.new) result }
 {
     let mut buffer = Buffer::new();
     say_line(err, text, buffer.format(number).as_bytes())
@@ -91,7 +96,8 @@ fn say_numbered<E: Sink>(
     number: usize,
     end: &[u8],
 ) -> Result<(), SinkFault>
-    ensures { Says (text.now ++ (decimal number ++ end.now)) (sink E.faults E.taken err.old) (sink E.faults E.taken err.new) result }
+    requires { E.has_failed err.old ≡ false }
+    ensures { Says (text.now ++ (decimal number ++ end.now)) (sink E.faults E.taken E.has_failed err.old) (sink E.faults E.taken E.has_failed err.new) result }
 {
     let mut buffer = Buffer::new();
     say_three(err, text, buffer.format(number).as_bytes(), end)
@@ -104,7 +110,8 @@ fn say_three<E: Sink>(
     second: &[u8],
     third: &[u8],
 ) -> Result<(), SinkFault>
-    ensures { Says (first.now ++ (second.now ++ third.now)) (sink E.faults E.taken err.old) (sink E.faults E.taken err.new) result }
+    requires { E.has_failed err.old ≡ false }
+    ensures { Says (first.now ++ (second.now ++ third.now)) (sink E.faults E.taken E.has_failed err.old) (sink E.faults E.taken E.has_failed err.new) result }
 {
     match say(err, first) {
         Ok(()) => say_both(err, second, third),
@@ -114,7 +121,8 @@ fn say_three<E: Sink>(
 
 /// Writes two texts.
 pub(crate) fn say_both<E: Sink>(err: &mut E, first: &[u8], second: &[u8]) -> Result<(), SinkFault>
-    ensures { Says (first.now ++ second.now) (sink E.faults E.taken err.old) (sink E.faults E.taken err.new) result }
+    requires { E.has_failed err.old ≡ false }
+    ensures { Says (first.now ++ second.now) (sink E.faults E.taken E.has_failed err.old) (sink E.faults E.taken E.has_failed err.new) result }
 {
     match say(err, first) {
         Ok(()) => say(err, second),
@@ -124,7 +132,8 @@ pub(crate) fn say_both<E: Sink>(err: &mut E, first: &[u8], second: &[u8]) -> Res
 
 /// Writes a line of two texts.
 fn say_line<E: Sink>(err: &mut E, text: &[u8], further: &[u8]) -> Result<(), SinkFault>
-    ensures { Says (text.now ++ (further.now ++ 10 ∷ [])) (sink E.faults E.taken err.old) (sink E.faults E.taken err.new) result }
+    requires { E.has_failed err.old ≡ false }
+    ensures { Says (text.now ++ (further.now ++ 10 ∷ [])) (sink E.faults E.taken E.has_failed err.old) (sink E.faults E.taken E.has_failed err.new) result }
 {
     match say(err, text) {
         Ok(()) => say_end(err, further),
@@ -134,7 +143,8 @@ fn say_line<E: Sink>(err: &mut E, text: &[u8], further: &[u8]) -> Result<(), Sin
 
 /// Writes a text and a newline.
 fn say_end<E: Sink>(err: &mut E, text: &[u8]) -> Result<(), SinkFault>
-    ensures { Says (text.now ++ 10 ∷ []) (sink E.faults E.taken err.old) (sink E.faults E.taken err.new) result }
+    requires { E.has_failed err.old ≡ false }
+    ensures { Says (text.now ++ 10 ∷ []) (sink E.faults E.taken E.has_failed err.old) (sink E.faults E.taken E.has_failed err.new) result }
 {
     match say(err, text) {
         Ok(()) => say(err, b"\n"),

@@ -1,4 +1,4 @@
-ghost use Rattle.std.specs.Prelude.{◌≡◌, ◌<◌, ◌^◌};
+ghost use Rattle.std.specs.Prelude.{◌≡◌, ◌<◌, ◌^◌, false};
 ghost use Rattle.satp_app.specs.Outside.{Says, sink, source};
 ghost use Rattle.satp_app.specs.Streams.{Concluded, ReadRule, TextRule};
 ghost use Rattle.satp_app.specs.Texts.{text_form, without_newline};
@@ -19,8 +19,9 @@ pub(crate) const LONGEST_INPUT: usize = 8193;
 
 /// Reads the input to its end, or to the first byte past the limit.
 pub(crate) fn read_to<I: Source>(alloc: Global, input: &mut I, most: usize) -> Result<Text, Outcome>
-    requires { most < 2 ^ 60 }
-    ensures { ReadRule most (source I.faults I.left input.old) (source I.faults I.left input.new) result }
+    requires most { most < 2 ^ 60 }
+    requires over { I.is_over input.old ≡ false }
+    ensures { ReadRule most (source I.faults I.left I.is_over input.old) (source I.faults I.left I.is_over input.new) result }
 {
     let Ok(mut text) = Text::copy(alloc, b"") else {
         return Err(Outcome::Memory);
@@ -66,7 +67,8 @@ fn without_newline(bytes: &[u8]) -> &[u8]
 
 /// Writes all the bytes, piece by piece, up to the first write that fails.
 pub(crate) fn say<K: Sink>(out: &mut K, bytes: &[u8]) -> Result<(), SinkFault>
-    ensures { Says bytes.now (sink K.faults K.taken out.old) (sink K.faults K.taken out.new) result }
+    requires { K.has_failed out.old ≡ false }
+    ensures { Says bytes.now (sink K.faults K.taken K.has_failed out.old) (sink K.faults K.taken K.has_failed out.new) result }
 {
     let mut done = 0;
     while done < bytes.len() {
@@ -80,7 +82,8 @@ pub(crate) fn say<K: Sink>(out: &mut K, bytes: &[u8]) -> Result<(), SinkFault>
 
 /// Ends a command that made this reply of its input.
 pub(crate) fn conclude<K: Sink>(out: &mut K, reply: Result<Reply, Memory>) -> Outcome
-    ensures { Concluded reply (sink K.faults K.taken out.old) (sink K.faults K.taken out.new) result }
+    requires { K.has_failed out.old ≡ false }
+    ensures { Concluded reply (sink K.faults K.taken K.has_failed out.old) (sink K.faults K.taken K.has_failed out.new) result }
 {
     match reply {
         Ok(Reply::Lines(lines)) => match say(out, lines.bytes()) {

@@ -1,7 +1,7 @@
 ghost use Rattle.satp_app.specs.Commands.{CommandRule, EndRule, RunRule};
 ghost use Rattle.satp_app.specs.Outside.{outside, sink, site_state, source, streams};
 ghost use Rattle.satp_words.specs.Commands.{IsListed};
-ghost use Rattle.std.specs.Prelude.{ℕ, List};
+ghost use Rattle.std.specs.Prelude.{◌≡◌, ℕ, false, List};
 
 use crate::answer_command::answer;
 use crate::check_command::{check, check_signed};
@@ -15,6 +15,8 @@ use satp_words::{Command, WordsFault, read};
 use std::alloc::Global;
 
 /// Does what the words ask for, and answers the exit status. The words leave the program's own name out.
+///
+/// The input hasn't ended, and no device has failed yet. No read follows one that failed or found the end, and no write one that failed.
 ///
 /// `init` enters a directory of the site, sets a gateway up there with the genesis on the input, and prints its
 /// name and `ready`; the other commands make no call on the site. `answer NAME` prints the receipt of the transfer proposal on the input, `check` the kind and length of the
@@ -30,7 +32,7 @@ use std::alloc::Global;
 ///   its end, or to the first byte past the longest input.
 /// - 8: `init`: the set-up failed.
 /// - 4: `answer`: the proposal's receiver isn't NAME.
-/// - 11: a write of the output failed; what it took is the front of the line.
+/// - 11: a write of the output failed; what it took is a prefix of the line.
 /// - 0: the line was printed.
 ///
 /// 10, want of memory, may come at any point. Every status but 0 has a line on `err`, whose failures are
@@ -43,10 +45,13 @@ pub fn run<S: Site, I: Source, K: Sink, E: Sink>(
     out: &mut K,
     err: &mut E,
 ) -> u8
+    requires over { I.is_over input.old ≡ false }
+    requires out_failed { K.has_failed out.old ≡ false }
+    requires err_failed { E.has_failed err.old ≡ false }
     ensures { RunRule words.now
-        (outside (streams (source I.faults I.left input.old) (sink K.faults K.taken out.old)) (site_state S.faults S.told S.book site.old))
-        (outside (streams (source I.faults I.left input.new) (sink K.faults K.taken out.new)) (site_state S.faults S.told S.book site.new))
-        (sink E.faults E.taken err.old) (sink E.faults E.taken err.new) result }
+        (outside (streams (source I.faults I.left I.is_over input.old) (sink K.faults K.taken K.has_failed out.old)) (site_state S.faults S.told S.book site.old))
+        (outside (streams (source I.faults I.left I.is_over input.new) (sink K.faults K.taken K.has_failed out.new)) (site_state S.faults S.told S.book site.new))
+        (sink E.faults E.taken E.has_failed err.old) (sink E.faults E.taken E.has_failed err.new) result }
 {
     let outcome = obey(alloc, words, site, input, out);
     let _ = report(err, outcome);
@@ -61,9 +66,11 @@ fn obey<S: Site, I: Source, K: Sink>(
     input: &mut I,
     out: &mut K,
 ) -> Outcome
+    requires over { I.is_over input.old ≡ false }
+    requires failed { K.has_failed out.old ≡ false }
     ensures { EndRule words.now
-        (outside (streams (source I.faults I.left input.old) (sink K.faults K.taken out.old)) (site_state S.faults S.told S.book site.old))
-        (outside (streams (source I.faults I.left input.new) (sink K.faults K.taken out.new)) (site_state S.faults S.told S.book site.new))
+        (outside (streams (source I.faults I.left I.is_over input.old) (sink K.faults K.taken K.has_failed out.old)) (site_state S.faults S.told S.book site.old))
+        (outside (streams (source I.faults I.left I.is_over input.new) (sink K.faults K.taken K.has_failed out.new)) (site_state S.faults S.told S.book site.new))
         result }
 {
     match read(alloc, words) {
@@ -82,10 +89,12 @@ fn perform<S: Site, I: Source, K: Sink>(
     input: &mut I,
     out: &mut K,
 ) -> Outcome
-    requires { IsListed _words.now command }
+    requires listed { IsListed _words.now command }
+    requires over { I.is_over input.old ≡ false }
+    requires failed { K.has_failed out.old ≡ false }
     ensures { CommandRule command
-        (outside (streams (source I.faults I.left input.old) (sink K.faults K.taken out.old)) (site_state S.faults S.told S.book site.old))
-        (outside (streams (source I.faults I.left input.new) (sink K.faults K.taken out.new)) (site_state S.faults S.told S.book site.new))
+        (outside (streams (source I.faults I.left I.is_over input.old) (sink K.faults K.taken K.has_failed out.old)) (site_state S.faults S.told S.book site.old))
+        (outside (streams (source I.faults I.left I.is_over input.new) (sink K.faults K.taken K.has_failed out.new)) (site_state S.faults S.told S.book site.new))
         result }
 {
     match command {

@@ -35,7 +35,7 @@ image_of_base s h = record {
   kept = λ k lt outside. get_or-take s.least s.base k 0 lt;
 }
 
--- Each image behind a write has the front of an image before it, up to the place of the write.
+-- Each image after a write has the front of an image before it, up to the place of the write.
 pub write_behind : (s : Standing) (at n : ℕ) (bytes c : List ℕ) → IsSound s → n ≤ s.least → n ≤ at → n ≤ length s.now → Leaves (wrote s at bytes) c → (d : List ℕ) × Leaves s d × (take n d ≡ take n c) × (n ≤ length c)
 write_behind s at n bytes c sound le_least le_at le_now leaves =
     (take n c ++ drop n (take s.least s.base), record { no_shorter = omega (arith, long); no_longer = omega (arith, long, sound.order); kept = kept }, take_at _ _ n size, enough)
@@ -64,20 +64,20 @@ write_behind s at n bytes c sound le_least le_at le_now leaves =
     kept k lt outside = ⊎_elim (front k lt outside) (back k lt) (cases_lt k n)
 
 -- where the disk reads as one of its images, a `Left` changes none of them
-pub left_same : (s : Standing) (bytes c : List ℕ) → Leaves s bytes → Leaves (changed s bytes []) c → Leaves s c
+left_same : (s : Standing) (bytes c : List ℕ) → Leaves s bytes → Leaves (changed s bytes []) c → Leaves s c
 left_same s bytes c here leaves = record {
   no_shorter = omega (arith, here.no_shorter, leaves.no_shorter);
   no_longer = omega (arith, here.no_longer, leaves.no_longer);
   kept = λ k lt outside. leaves.kept k (omega (arith, here.no_shorter)) outside;
 }
 
--- behind a sync a stop leaves what a read gives
+-- after a sync a stop leaves what a read gives
 pub only_settled : (bytes c : List ℕ) → Leaves (settled bytes) c → c ≡ bytes
 only_settled bytes c leaves =
     let same : length c ≡ length bytes = omega (arith, leaves.no_shorter, leaves.no_longer) in
     ext_get_or 0 c bytes same (λ k lt. leaves.kept k (omega arith) tt)
 
--- behind a write of one byte into what is synced, that byte alone is free
+-- after a write of one byte into what is synced, that byte alone is free
 pub one_free : (bytes c : List ℕ) (at byte : ℕ) → at < length bytes → Leaves (wrote (settled bytes) at (byte ∷ [])) c → c ≡ set bytes at (get_or c at 0)
 one_free bytes c at byte lt leaves = ext_get_or 0 c (set bytes at (get_or c at 0)) same_length (λ k below. ⊎_elim (at_place k) (elsewhere k below) (cases_eq k at))
   where
@@ -169,7 +169,7 @@ take_nil zero = refl
 take_nil (suc n) = refl
 
 -- a `Left` that a stop could have left adds no image
-pub left_leaves : (area a : Area) (s : Standing) (bytes c : List ℕ) → IsFit area s (Left a bytes) → Leaves (next area s (Left a bytes)) c → Leaves s c
+left_leaves : (area a : Area) (s : Standing) (bytes c : List ℕ) → IsFit area s (Left a bytes) → Leaves (next area s (Left a bytes)) c → Leaves s c
 left_leaves area a s bytes c fit = choice (λ st. Leaves st c → Leaves s c) (same_area a area) (changed s bytes []) s (λ is. left_same s bytes c (fit is)) (λ leaves. leaves)
 
 -- a cut of some events leaves no more than its prefix of them

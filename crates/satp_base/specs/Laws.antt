@@ -4,7 +4,7 @@ use Rattle.satp_base.specs.declared.area.Area.{Area}
 use Rattle.satp_base.specs.declared.area.Event.{Event}
 use Rattle.satp_base.specs.declared.area.Event.TheVariants.{Synced}
 use Rattle.satp_base.specs.Trail.{Trail, IsImage, KeepsModel, extended, seen}
-use Rattle.satp_base.specs.Format.{IsPayload, counted, records, EndsAt, Stands, Damage, StandsOpened, IsMendable, IsClosed, IsAtRest}
+use Rattle.satp_base.specs.Format.{IsPayload, counted, records, EndsAt, Stands, Damage, StandsOpened, IsMendable, IsAtRest}
 use Rattle.satp_base.specs.Segments.{IsCut, append_events, open_events}
 
 -- every image stands for exactly one list, or has exactly one damage
@@ -18,10 +18,6 @@ OneReading =
 -- the disk as it reads is one of its images
 abbrev pub ReadsAnImage : Type 0
 ReadsAnImage = (t : Trail) (area : Area) → KeepsModel t → IsImage t area (seen t area)
-
--- each image of the area is these payloads and a closed gate
-abbrev pub ClosesAt : Trail → Area → List (List ℕ) → Type 0
-ClosesAt t area payloads = (image : List ℕ) → IsImage t area image → IsClosed payloads image
 
 -- each image of the area is these payloads and a gate that is 0
 abbrev pub RestsAt : Trail → Area → List (List ℕ) → Type 0

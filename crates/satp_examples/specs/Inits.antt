@@ -1,7 +1,7 @@
 -- How `init` ends: the gateway alpha, with a ledger of gold, is to be set up in the directory `d`.
 use Rattle.std.specs.Prelude.{ℕ, List, [], ◌∷◌, codes, replicate, Option, Some, None}
 use Rattle.satp_base.specs.Acts.{founded}
-use Rattle.satp_base.specs.Calls.{Told, entered, made}
+use Rattle.satp_base.specs.Calls.{Told, enter_failed, entered, made}
 use Rattle.satp_base.specs.Founding.{Founding}
 use Rattle.satp_base.specs.Money.{Book}
 use Rattle.satp_base.specs.Segments.{append_events}
@@ -12,10 +12,10 @@ use Rattle.satp_gateway.specs.SettingUp.{Plan, founds, plan}
 use Rattle.satp_app.specs.Init.{InitRule, Order, order, setup_of}
 use Rattle.satp_app.specs.Outside.{OutsideState, SinkState, SiteState, SourceState}
 use Rattle.satp_app.specs.declared.outcome.Outcome.{Outcome}
-use Rattle.satp_app.specs.declared.outcome.Outcome.TheVariants.{Done, Refused, GenesisRefused, SiteFailed, JournalDamaged, GatewayThere}
+use Rattle.satp_app.specs.declared.outcome.Outcome.TheVariants.{Done, InputFailed, Refused, GenesisRefused, SiteFailed, JournalDamaged, GatewayThere}
 use Rattle.satp_app.specs.declared.outcome.Refusal.TheVariants.{Receiver}
 use Rattle.satp_examples.specs.Appending.{closed, damaged, uncalled}
-use Rattle.satp_examples.specs.Commands.{input, out}
+use Rattle.satp_examples.specs.Commands.{input, out, over}
 use Rattle.satp_examples.specs.Genesis.{gold_1000}
 use Rattle.satp_examples.specs.Records.{at_b}
 use Rattle.satp_examples.specs.Samples.{alpha, beta}
@@ -60,15 +60,20 @@ there = made 3 (synced ∷ []) (inside closed)
 abbrev pub found_damaged : Told
 found_damaged = made 3 (synced ∷ []) (inside damaged)
 
--- behind it the set-up: the journal was opened again, the ledger founded and the record stored
+-- the journal was opened before the directory was entered
+abbrev pub opened_outside : Told
+opened_outside = entered (codes "d") (made 3 (synced ∷ []) (uncalled closed))
+
+-- the directory was asked for in vain, and the journal opened all the same
+abbrev pub opened_in_vain : Told
+opened_in_vain = made 3 (synced ∷ []) (enter_failed (codes "d") (uncalled closed))
+
+-- then the set-up: the ledger was founded and the record stored
 abbrev pub setup_plan : Plan
 setup_plan = plan alphas.setup Accounts gold_alone
 
-abbrev pub reopened : Told
-reopened = made 3 (synced ∷ []) vacant
-
 abbrev pub set_up : Told
-set_up = made 4 (append_events JournalA 0 setup_plan.payload) (founds setup_plan reopened)
+set_up = made 4 (append_events JournalA 0 setup_plan.payload) (founds setup_plan vacant)
 
 -- ---- ends
 
@@ -80,18 +85,23 @@ abbrev pub gold : Option Book
 gold = Some (founded gold_alone)
 
 pub record EndsOfInit : Type 0 where
-  pub done : Ends (before [] genesis_text) (around (site 0 set_up gold) (input 0 []) (out 0 (codes "alpha ready\n"))) Done
+  pub done : Ends (before [] genesis_text) (around (site 0 set_up gold) (over 0 []) (out 0 (codes "alpha ready\n"))) Done
   pub there_already : Ends (before closed genesis_text) (around (site 0 there None) (input 0 genesis_text) (out 0 [])) GatewayThere
   pub damaged_journal : Ends (before damaged genesis_text) (around (site 0 found_damaged None) (input 0 genesis_text) (out 0 [])) (JournalDamaged 6)
-  pub no_directory : Ends (before [] genesis_text) (around (site 1 (inside []) None) (input 0 genesis_text) (out 0 [])) SiteFailed
-  pub a_line_refused : Ends (before [] open_text) (around (site 0 vacant None) (input 0 []) (out 0 [])) (GenesisRefused 1)
-  pub not_done_without_its_line : ¬ Ends (before [] genesis_text) (around (site 0 set_up gold) (input 0 []) (out 0 [])) Done
-  pub not_done_without_its_ledger : ¬ Ends (before [] genesis_text) (around (site 0 set_up None) (input 0 []) (out 0 (codes "alpha ready\n"))) Done
+  pub no_directory : Ends (before [] genesis_text) (around (site 1 (enter_failed (codes "d") (uncalled [])) None) (input 0 genesis_text) (out 0 [])) SiteFailed
+  pub a_line_refused : Ends (before [] open_text) (around (site 0 vacant None) (over 0 []) (out 0 [])) (GenesisRefused 1)
+  pub input_failed : Ends (before [] genesis_text) (around (site 0 vacant None) (over 1 genesis_text) (out 0 [])) InputFailed
+  pub not_done_without_its_line : ¬ Ends (before [] genesis_text) (around (site 0 set_up gold) (over 0 []) (out 0 [])) Done
+  pub not_done_without_its_ledger : ¬ Ends (before [] genesis_text) (around (site 0 set_up None) (over 0 []) (out 0 (codes "alpha ready\n"))) Done
+  pub not_done_with_a_fault_of_the_site : ¬ Ends (before [] genesis_text) (around (site 1 set_up gold) (over 0 []) (out 0 (codes "alpha ready\n"))) Done
   -- the input isn't read where a record is there
-  pub not_there_with_the_input_read : ¬ Ends (before closed genesis_text) (around (site 0 there None) (input 0 []) (out 0 [])) GatewayThere
+  pub not_there_with_the_input_read : ¬ Ends (before closed genesis_text) (around (site 0 there None) (over 0 []) (out 0 [])) GatewayThere
   pub not_there_where_it_is_empty : ¬ Ends (before [] genesis_text) (around (site 0 vacant None) (input 0 genesis_text) (out 0 [])) GatewayThere
-  pub not_failed_without_a_fault : ¬ Ends (before [] genesis_text) (around (site 0 (inside []) None) (input 0 genesis_text) (out 0 [])) SiteFailed
+  -- the directory is entered before the first call on its journal, and not in vain
+  pub not_there_opened_outside : ¬ Ends (before closed genesis_text) (around (site 0 opened_outside None) (input 0 genesis_text) (out 0 [])) GatewayThere
+  pub not_there_opened_in_vain : ¬ Ends (before closed genesis_text) (around (site 0 opened_in_vain None) (input 0 genesis_text) (out 0 [])) GatewayThere
+  pub not_failed_without_a_fault : ¬ Ends (before [] genesis_text) (around (site 0 (enter_failed (codes "d") (uncalled [])) None) (input 0 genesis_text) (out 0 [])) SiteFailed
   -- the journal is looked at before the input
-  pub not_refused_where_a_record_is : ¬ Ends (before closed open_text) (around (site 0 there None) (input 0 []) (out 0 [])) (GenesisRefused 1)
-  pub not_refused_at_a_good_line : ¬ Ends (before [] genesis_text) (around (site 0 vacant None) (input 0 []) (out 0 [])) (GenesisRefused 1)
-  pub no_receiver_is_asked : ¬ Ends (before [] genesis_text) (around (site 0 vacant None) (input 0 []) (out 0 [])) (Refused Receiver)
+  pub not_refused_where_a_record_is : ¬ Ends (before closed open_text) (around (site 0 there None) (over 0 []) (out 0 [])) (GenesisRefused 1)
+  pub not_refused_at_a_good_line : ¬ Ends (before [] genesis_text) (around (site 0 vacant None) (over 0 []) (out 0 [])) (GenesisRefused 1)
+  pub no_receiver_is_asked : ¬ Ends (before [] genesis_text) (around (site 0 vacant None) (over 0 []) (out 0 [])) (Refused Receiver)

@@ -1,12 +1,12 @@
 -- What a stop may leave of a journal of `abc`, at each event of an append of `d` and of an opening.
 use Rattle.std.specs.Prelude.{◌≡◌, ℕ, List, [], ◌∷◌, Some}
 use Rattle.satp_base.specs.Calls.{made}
-use Rattle.satp_base.specs.Laws.{AllInAppend, IsInMend}
+use Rattle.satp_base.specs.Laws.{AllInAppend, GateFollows, IsEither, IsInMend}
 use Rattle.satp_base.specs.Trail.{extended}
 use Rattle.satp_base.specs.declared.area.Area.TheVariants.{JournalA}
 use Rattle.satp_base.specs.declared.area.Event.{Event}
 use Rattle.satp_base.specs.declared.area.Event.TheVariants.{Wrote, Cut, Left}
-use Rattle.satp_journal.specs.Appending.{AppendStops, AtEach, RestsStill}
+use Rattle.satp_journal.specs.Appending.{AppendRests, AppendStops, AtEach, RestsStill}
 use Rattle.satp_journal.specs.Opening.{OpenStops, Rests}
 use Rattle.satp_examples.specs.Appending.{append, at_rest, closed, gate_in_the_write, held, uncalled, with_both}
 use Rattle.satp_examples.specs.Disks.{behind, one_write}
@@ -49,6 +49,30 @@ pub record StopsOfAnAppend : Type 0 where
   pub not_without_the_payload : ¬ RestsBy append (abc ∷ [])
   pub rests : Rests (Some at_rest) (held (abc ∷ []))
   pub not_with_a_payload_more : ¬ Rests (Some at_rest) (held (abc ∷ d ∷ []))
+
+-- the byte at the gate, behind these events of the append
+abbrev pub GateBy : List Event → List ℕ → Type 0
+GateBy events image = GateFollows (abc ∷ []) append events image
+
+pub record GatesAtEachEvent : Type 0 where
+  pub closed_before_its_write : GateBy (frame ∷ synced ∷ []) closed
+  pub any_byte_in_its_write : GateBy (frame ∷ synced ∷ gate ∷ []) (gate_in_the_write d)
+  pub open_after_its_sync : GateBy append with_both
+  pub not_open_before_its_write : ¬ GateBy (frame ∷ synced ∷ []) with_both
+  pub not_another_byte_after_its_sync : ¬ GateBy append (gate_in_the_write d)
+
+-- each list whose records end at the gate of this one is at rest with `d`, where it was at rest
+abbrev pub RestsEach : List ℕ → List Event → Type 0
+RestsEach q events = AppendRests d (held (q ∷ [])) (Some at_rest) (Some (made 4 events at_rest))
+
+pub record ListsAtTheGate : Type 0 where
+  pub the_list : RestsEach abc append
+  -- the journal keeps another list of three bytes, and what is at rest is `abc`
+  pub another_as_long : RestsEach (120 ∷ 121 ∷ 122 ∷ []) append
+  pub not_without_the_last_sync : ¬ RestsEach abc (frame ∷ synced ∷ gate ∷ [])
+  pub shorter : IsEither (abc ∷ []) d (abc ∷ [])
+  pub longer : IsEither (abc ∷ []) d (abc ∷ d ∷ [])
+  pub neither : ¬ IsEither (abc ∷ []) d (d ∷ [])
 
 -- ---- an opening
 

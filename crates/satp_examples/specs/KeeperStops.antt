@@ -1,6 +1,6 @@
 -- Kept ledgers that aren't opened or founded, and what a stop leaves of a founding.
 use Rattle.std.specs.Prelude.{◌≡◌, ℕ, List, [], ◌∷◌, ◌++◌, Option, Some, None, Ok, Err, true, false}
-use Rattle.satp_base.specs.Calls.{Told, made}
+use Rattle.satp_base.specs.Calls.{Makes, Told, made}
 use Rattle.satp_base.specs.Segments.{append_events}
 use Rattle.satp_base.specs.declared.area.Area.TheVariants.{JournalA, Ledger}
 use Rattle.satp_base.specs.declared.area.Event.{Event}
@@ -11,13 +11,14 @@ use Rattle.satp_base.specs.declared.ledger.Entry.{Entry}
 use Rattle.satp_base.specs.declared.ledger.Entry.TheVariants.{Absent, Locked}
 use Rattle.satp_base.specs.declared.ledger.LedgerKind.TheVariants.{Accounts}
 use Rattle.satp_keeper.specs.Books.{Leaves, ledger_payloads}
-use Rattle.satp_keeper.specs.Founding.{FoundStops, IsInFounding, Makes, UnfoundedBy, found_calls}
+use Rattle.satp_keeper.specs.Founding.{FoundStops, IsInFounding, UnfoundedBy, found_calls}
 use Rattle.satp_keeper.specs.Opening.{UnopenedBy}
 use Rattle.satp_keeper.specs.Operating.{act_answer, count_behind, faults_after, looked, shown, wants_after}
 use Rattle.satp_keeper.specs.declared.fault.KeeperFault.{KeeperFault}
 use Rattle.satp_keeper.specs.declared.fault.KeeperFault.TheVariants as keeper
 use Rattle.satp_examples.specs.Acts.{locked}
 use Rattle.satp_examples.specs.Appending.{closed, damaged, uncalled}
+use Rattle.satp_examples.specs.Calls.{failed_by}
 use Rattle.satp_examples.specs.Journals.{d}
 use Rattle.satp_examples.specs.Keepers.{lock}
 use Rattle.satp_examples.specs.Ledgers.{new_book, with_gold}
@@ -45,7 +46,7 @@ pub record LedgersThatAreNotOpened : Type 0 where
   pub empty : FailsBy [] 5 (synced ∷ shut ∷ synced ∷ []) keeper.Empty
   pub of_another_kind : FailsBy of_outputs 3 (synced ∷ []) (keeper.Record 0)
   pub damaged_journal : FailsBy damaged 3 (synced ∷ []) (keeper.Damaged 6)
-  pub failed_sync : FailsBy of_accounts 1 [] keeper.Disk
+  pub failed_sync : UnopenedBy Accounts (Some (uncalled of_accounts)) (Some (failed_by 1 [] (uncalled of_accounts))) keeper.Disk
   pub no_memory : FailsBy of_accounts 3 (synced ∷ []) keeper.Memory
   pub not_empty_with_a_record : ¬ FailsBy of_accounts 3 (synced ∷ []) keeper.Empty
   pub not_by_a_record_of_its_kind : (index : ℕ) → ¬ FailsBy of_accounts 3 (synced ∷ []) (keeper.Record index)
@@ -76,6 +77,10 @@ MakesAll calls events = Makes (found_calls (d ∷ [])) (Some filled) (Some (made
 abbrev pub IsUnfounded : ℕ → List Event → KeeperFault → Type 0
 IsUnfounded calls events fault = UnfoundedBy (d ∷ []) (Some filled) (Some (made calls events filled)) fault
 
+-- and one whose last call failed
+abbrev pub FailsToFound : ℕ → List Event → Type 0
+FailsToFound calls events = UnfoundedBy (d ∷ []) (Some filled) (Some (failed_by calls events filled)) keeper.Disk
+
 pub record CallsOfAFounding : Type 0 where
   pub all : MakesAll 10 founding
   pub not_one_call_too_few : ¬ MakesAll 9 founding
@@ -85,18 +90,19 @@ pub record CallsOfAFounding : Type 0 where
 
 pub record LedgersThatAreNotFounded : Type 0 where
   -- the cut failed, and it happened or not
-  pub at_the_cut : IsUnfounded 1 [] keeper.Disk
-  pub at_the_cut_that_happened : IsUnfounded 1 (Cut Ledger 0 ∷ []) keeper.Disk
+  pub at_the_cut : FailsToFound 1 []
+  pub at_the_cut_that_happened : FailsToFound 1 (Cut Ledger 0 ∷ [])
   -- a look at the length failed, and the first write of the append
-  pub at_the_look : IsUnfounded 3 (Cut Ledger 0 ∷ synced ∷ []) keeper.Disk
-  pub at_the_append : IsUnfounded 7 cut_and_opened keeper.Disk
+  pub at_the_look : FailsToFound 3 (Cut Ledger 0 ∷ synced ∷ [])
+  pub at_the_append : FailsToFound 7 cut_and_opened
   pub no_memory_at_once : UnfoundedBy (d ∷ []) (Some filled) (Some filled) keeper.Memory
   pub no_memory_behind_the_opening : IsUnfounded 6 cut_and_opened keeper.Memory
   pub damaged_where_nothing_is_told : UnfoundedBy (d ∷ []) None None (keeper.Damaged 6)
   pub not_failed_without_a_call : ¬ UnfoundedBy (d ∷ []) (Some filled) (Some filled) keeper.Disk
-  pub not_with_one_call_too_few : ¬ IsUnfounded 1 (Cut Ledger 0 ∷ synced ∷ []) keeper.Disk
-  pub not_without_the_sync_of_the_cut : ¬ IsUnfounded 2 (Cut Ledger 0 ∷ shut ∷ []) keeper.Disk
-  pub not_on_another_area : ¬ IsUnfounded 2 (Cut Ledger 0 ∷ Synced JournalA ∷ []) keeper.Disk
+  pub not_failed_where_all_succeeded : ¬ IsUnfounded 7 cut_and_opened keeper.Disk
+  pub not_with_one_call_too_few : ¬ FailsToFound 1 (Cut Ledger 0 ∷ synced ∷ [])
+  pub not_without_the_sync_of_the_cut : ¬ FailsToFound 2 (Cut Ledger 0 ∷ shut ∷ [])
+  pub not_on_another_area : ¬ FailsToFound 2 (Cut Ledger 0 ∷ Synced JournalA ∷ [])
   pub not_without_memory_behind_the_record : ¬ IsUnfounded 10 founding keeper.Memory
   pub not_damaged_where_it_is_told : (at : ℕ) → ¬ IsUnfounded 4 (Cut Ledger 0 ∷ synced ∷ []) (keeper.Damaged at)
   pub not_broken : (new : Option Told) → ¬ UnfoundedBy (d ∷ []) None new keeper.Broken

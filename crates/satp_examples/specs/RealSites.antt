@@ -1,5 +1,6 @@
 -- What a real site does with the ledger that it holds, and a real disk with its directory. The ledger here is of accounts, without an asset, on a disk that tells nothing.
-use Rattle.std.specs.Prelude.{◌≢◌, ℕ, ◌-◌, ◌^◌, [], ◌∷◌, List, Option, None, Some, Result, Ok, Err, true}
+use Rattle.std.specs.FinMap as map
+use Rattle.std.specs.Prelude.{◌≡◌, ◌≢◌, ℕ, ◌-◌, ◌^◌, [], ◌∷◌, List, Option, None, Some, Result, Ok, Err, true}
 use Rattle.satp_base.specs.Acts.{founded}
 use Rattle.satp_base.specs.GenesisText.{nothing}
 use Rattle.satp_base.specs.LedgerRule.{entry_of}
@@ -18,7 +19,9 @@ use Rattle.satp_devices.specs.Places.{Enters, IsSecond, OnArea}
 use Rattle.satp_devices.specs.declared.area_file.AreaFile.{AreaFile}
 use Rattle.satp_devices.specs.declared.folder.Folder.{Folder}
 use Rattle.satp_site.specs.Keeping.{KeptState}
-use Rattle.satp_site.specs.Sites.{SiteActs, SiteFounds, SiteLooks, SiteRaises}
+use Rattle.satp_keeper.specs.declared.fault.KeeperFault.TheVariants.{Disk, Memory}
+use Rattle.satp_site.specs.Directories.{DirectoryState}
+use Rattle.satp_site.specs.Sites.{GivesBack, HasNoSecond, HasSecond, SiteActs, SiteFounds, SiteLooks, SiteRaises, given_back}
 use Rattle.satp_examples.specs.Keepers.{kept}
 use Rattle.satp_examples.specs.Samples.{alpha_1, quarter}
 
@@ -43,27 +46,57 @@ broken = record fresh { journal = record { held = record kept { broken = true };
 abbrev pub broken_and_asked : KeptState
 broken_and_asked = record broken { own_faults = 1 }
 
+-- ---- the disks of a directory
+
+-- they tell nothing, and have failed so often, the second one so often when it was given back
+abbrev pub counts : ℕ → ℕ → DirectoryState
+counts first second = record { disk = record { told = None; faults = first }; second = record { told = None; faults = second } }
+
+-- the directory's disk tells that it was called so often
+abbrev pub called_times : ℕ → DirectoryState
+called_times calls = record {
+  disk = record { told = Some (record { trail = record { start = λ area. []; entries = map.empty; events = [] }; dirs = []; calls = calls; last_failed = None; asks = [] }); faults = 0 };
+  second = record { told = None; faults = 0 };
+}
+
+pub record DisksOfADirectory : Type 0 where
+  pub had : HasSecond (called_times 4) (called_times 5)
+  pub not_had_twice : ¬ HasSecond (called_times 4) (called_times 6)
+  pub not_had_uncounted : ¬ HasSecond (called_times 4) (called_times 4)
+  pub had_and_given_back : GivesBack Memory (called_times 4) (called_times 6)
+  pub not_had_and_kept : ¬ GivesBack Memory (called_times 4) (called_times 5)
+  pub not_given_back_without_a_ledger : given_back None (called_times 4) ≡ called_times 4
+  pub none_had : HasNoSecond (counts 2 0) (counts 3 0)
+  pub no_fault_uncounted : ¬ HasNoSecond (counts 2 0) (counts 2 0)
+  pub no_fault_of_the_second : ¬ HasNoSecond (counts 2 0) (counts 3 1)
+  pub a_failed_disk : GivesBack Disk (counts 2 0) (counts 2 1)
+  pub no_failed_disk_uncounted : ¬ GivesBack Disk (counts 2 0) (counts 2 0)
+  pub no_want_of_memory_counted_there : ¬ GivesBack Memory (counts 2 0) (counts 2 1)
+
 -- ---- foundings and openings
 
-abbrev pub Founds : Result (Unit {0}) SiteFault → Option KeptState → Type 0
+abbrev pub Founds : DirectoryState → Result (Unit {0}) SiteFault → DirectoryState → Option KeptState → Type 0
 Founds = SiteFounds Accounts nothing
 
-abbrev pub Raises : Result (Unit {0}) SiteFault → Option KeptState → Type 0
+abbrev pub Raises : DirectoryState → Result (Unit {0}) SiteFault → DirectoryState → Option KeptState → Type 0
 Raises = SiteRaises
 
 pub record LedgersOfASite : Type 0 where
-  pub founded : Founds (Ok tt) (Some fresh)
-  pub not_founded : (fault : SiteFault) → Founds (Err fault) None
-  pub not_of_another_kind : ¬ Founds (Ok tt) (Some (record fresh { kind = Outputs }))
-  pub not_broken : ¬ Founds (Ok tt) (Some broken)
-  pub not_with_a_fault : ¬ Founds (Ok tt) (Some (record fresh { own_faults = 1 }))
-  pub not_founded_and_not_held : ¬ Founds (Ok tt) None
-  pub not_held_and_not_founded : (fault : SiteFault) → ¬ Founds (Err fault) (Some fresh)
-  pub raised : Raises (Ok tt) (Some fresh)
-  pub not_raised : (fault : SiteFault) → Raises (Err fault) None
-  pub not_raised_and_not_held : ¬ Raises (Ok tt) None
-  pub not_held_and_not_raised : (fault : SiteFault) → ¬ Raises (Err fault) (Some fresh)
-  pub not_raised_broken : ¬ Raises (Ok tt) (Some broken)
+  pub founded : Founds (counts 2 0) (Ok tt) (counts 2 0) (Some fresh)
+  pub not_founded_without_a_disk : (fault : SiteFault) → Founds (counts 2 0) (Err fault) (counts 3 0) None
+  pub not_founded_where_its_disk_failed : (fault : SiteFault) → Founds (counts 2 0) (Err fault) (counts 2 1) None
+  pub not_of_another_kind : ¬ Founds (counts 2 0) (Ok tt) (counts 2 0) (Some (record fresh { kind = Outputs }))
+  pub not_broken : ¬ Founds (counts 2 0) (Ok tt) (counts 2 0) (Some broken)
+  pub not_with_a_fault : ¬ Founds (counts 2 0) (Ok tt) (counts 2 0) (Some (record fresh { own_faults = 1 }))
+  pub not_with_a_fault_of_its_disk : ¬ Founds (counts 2 0) (Ok tt) (counts 2 0) (Some (record fresh { disk_faults = 1 }))
+  pub not_founded_and_not_held : ¬ Founds (counts 2 0) (Ok tt) (counts 2 0) None
+  pub not_held_and_not_founded : (fault : SiteFault) → ¬ Founds (counts 2 0) (Err fault) (counts 3 0) (Some fresh)
+  pub raised : Raises (counts 2 0) (Ok tt) (counts 2 0) (Some fresh)
+  pub not_raised_without_a_disk : (fault : SiteFault) → Raises (counts 2 0) (Err fault) (counts 3 0) None
+  pub not_raised_and_not_held : ¬ Raises (counts 2 0) (Ok tt) (counts 2 0) None
+  pub not_held_and_not_raised : (fault : SiteFault) → ¬ Raises (counts 2 0) (Err fault) (counts 3 0) (Some fresh)
+  pub not_raised_broken : ¬ Raises (counts 2 0) (Ok tt) (counts 2 0) (Some broken)
+  pub not_raised_over_a_fault : ¬ Raises (counts 2 0) (Ok tt) (counts 2 0) (Some (record fresh { disk_faults = 1 }))
 
 -- ---- operations and looks
 

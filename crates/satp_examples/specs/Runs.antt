@@ -8,7 +8,7 @@ use Rattle.satp_app.specs.declared.outcome.Outcome.TheVariants.{Done, WordsRefus
 use Rattle.satp_words.specs.declared.command.Command.{Command}
 use Rattle.satp_words.specs.declared.command.Command.TheVariants.{Answer, Check}
 use Rattle.satp_examples.specs.Appending.{uncalled}
-use Rattle.satp_examples.specs.Commands.{input, out}
+use Rattle.satp_examples.specs.Commands.{failed, input, out, over}
 use Rattle.satp_examples.specs.Inits.{around, before, inside, site}
 use Rattle.satp_examples.specs.Messages.{proposal_text}
 use Rattle.satp_examples.specs.Replies.{receipt}
@@ -24,7 +24,7 @@ start = before [] proposal_text
 
 -- the proposal was read, this was printed, and the site stands so
 abbrev pub printed : List ℕ → SiteState → OutsideState
-printed text s = around s (input 0 []) (out 0 text)
+printed text s = around s (over 0 []) (out 0 text)
 
 abbrev pub receipt_line : List ℕ
 receipt_line = receipt ++ 10 ∷ []
@@ -42,6 +42,8 @@ pub record WorkOfCommands : Type 0 where
   pub not_answered_by_a_check : ¬ Does (Check None) receipt_line untouched
   pub not_with_a_call_on_the_site : ¬ Does (Answer beta) receipt_line (site 0 (inside []) None)
   pub not_with_a_fault_of_the_site : ¬ Does (Check None) checked_line (site 1 (uncalled []) None)
+  -- the end of the input was looked for
+  pub not_with_an_input_that_goes_on : ¬ CommandRule (Answer beta) start (around untouched (input 0 []) (out 0 receipt_line)) Done
   pub no_words_are_refused : (command : Command) (a : OutsideState) → ¬ CommandRule command start a WordsRefused
 
 -- ---- runs
@@ -59,7 +61,7 @@ Runs words a said status = RunRule words start a (out 0 []) said status
 pub record EndsOfRuns : Type 0 where
   pub done : Runs answer_beta (printed receipt_line untouched) (out 0 []) 0
   pub refused : Runs [] start (out 0 refused_line) 2
-  pub refused_with_a_part_of_its_line : Runs [] start (out 1 (codes "satp")) 2
+  pub refused_with_a_part_of_its_line : Runs [] start (failed 1 (codes "satp")) 2
   pub not_done_without_words : (a : OutsideState) (said : SinkState) → ¬ Runs [] a said 0
   pub not_refused_where_listed : (a : OutsideState) (said : SinkState) → ¬ Runs answer_beta a said 2
   pub not_refused_and_read : (said : SinkState) → ¬ Runs [] (printed [] untouched) said 2

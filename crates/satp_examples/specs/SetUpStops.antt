@@ -5,7 +5,7 @@ use Rattle.satp_base.specs.Segments.{append_events}
 use Rattle.satp_base.specs.declared.area.Area.TheVariants.{JournalA}
 use Rattle.satp_base.specs.declared.area.Event.{Event}
 use Rattle.satp_base.specs.declared.area.Event.TheVariants.{Founded, Wrote}
-use Rattle.satp_gateway.specs.SetUpStops.{SetUpStops}
+use Rattle.satp_gateway.specs.SetUpStops.{SetUpStops, VacantRests, VacantStops}
 use Rattle.satp_gateway.specs.SettingUp.{RestsSetUp, SetUpDecided}
 use Rattle.satp_gateway.specs.declared.fault.SetUpFault.TheVariants.{Already}
 use Rattle.satp_examples.specs.Appending.{closed, uncalled}
@@ -30,6 +30,11 @@ pub record StopsOfASetUp : Type 0 where
   pub not_stored_before_the_founding : ¬ SetsUpBy empty (opens ++ stores ++ Founded ∷ [])
   pub not_another_record : ¬ SetsUpBy empty (opens ++ Founded ∷ append_events JournalA 0 (101 ∷ []))
   pub not_behind_another_record : ¬ SetsUpBy (uncalled closed) (synced ∷ Founded ∷ append_events JournalA 6 d)
+  -- over the open journal
+  pub over_a_vacancy : VacantStops plan (Some opened) (Some set_up)
+  pub not_stored_over_a_vacancy_before_the_founding : ¬ VacantStops plan (Some opened) (Some (made 5 (stores ++ Founded ∷ []) opened))
+  pub rests_over_a_vacancy : VacantRests plan (Some opened) (Some set_up)
+  pub not_at_rest_unfounded : ¬ VacantRests plan (Some opened) (Some opened)
   pub rests : RestsSetUp plan (Some set_up)
   pub not_without_the_record : ¬ RestsSetUp plan (Some opened)
   pub not_with_a_record_more : ¬ RestsSetUp plan (Some (made 4 (append_events JournalA 4 abc) set_up))

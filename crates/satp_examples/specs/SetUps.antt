@@ -1,12 +1,12 @@
 -- A gateway that is set up in an empty area, in one that has a record, and in a damaged one.
 use Rattle.std.specs.Prelude.{ℕ, [], ◌∷◌, Some, None, Ok, Err}
 use Rattle.satp_base.specs.Acts.{founded}
-use Rattle.satp_base.specs.Calls.{Told, made}
+use Rattle.satp_base.specs.Calls.{Told, call_failed, made}
 use Rattle.satp_base.specs.Segments.{append_events}
 use Rattle.satp_base.specs.declared.area.Area.TheVariants.{JournalA}
 use Rattle.satp_base.specs.declared.area.Event.TheVariants.{Wrote, Synced}
 use Rattle.satp_base.specs.declared.ledger.LedgerKind.TheVariants.{Accounts}
-use Rattle.satp_gateway.specs.SettingUp.{DecidedBy, FoundsOnce, Plan, SetUpAnswers, founds, plan_of, tells}
+use Rattle.satp_gateway.specs.SettingUp.{DecidedBy, FoundsOnce, Plan, SetUpAnswers, Tells, VacantAnswers, founds, plan_of, tells}
 use Rattle.satp_gateway.specs.declared.fault.SetUpFault.TheVariants.{Already, Damaged, Site, Memory}
 use Rattle.satp_examples.specs.Appending.{closed, damaged, uncalled}
 use Rattle.satp_examples.specs.Journals.{d}
@@ -40,7 +40,11 @@ pub record AnswersToSetUps : Type 0 where
   pub no_memory : SetUpAnswers plan (tells (Some empty) None) (tells (Some opened) None) (Err Memory)
   pub no_memory_for_the_journal : SetUpAnswers plan (tells (Some empty) None) (tells (Some (made 2 (Synced JournalA ∷ []) empty)) None) (Err Memory)
   pub damaged_journal : SetUpAnswers plan (tells (Some (uncalled damaged)) None) (tells (Some (made 3 (Synced JournalA ∷ []) (uncalled damaged))) None) (Err (Damaged 6))
-  pub founding_failed : SetUpAnswers plan (tells (Some empty) None) (tells (Some (made 1 [] opened)) None) (Err Site)
+  pub founding_failed : SetUpAnswers plan (tells (Some empty) None) (tells (Some (call_failed [] opened)) None) (Err Site)
+  -- over the open journal
+  pub over_a_vacancy : VacantAnswers plan (tells (Some opened) None) (tells (Some set_up) (Some (founded with_gold))) (Ok tt)
+  pub not_there_over_a_vacancy : (new : Tells) → ¬ VacantAnswers plan (tells (Some opened) None) new (Err Already)
+  pub not_without_memory_after_the_founding : ¬ VacantAnswers plan (tells (Some opened) None) (tells (Some (founds plan opened)) None) (Err Memory)
   pub not_done_without_its_ledger : ¬ SetUpAnswers plan (tells (Some empty) None) (tells (Some set_up) None) (Ok tt)
   pub not_done_without_a_founding : ¬ SetUpAnswers plan (tells (Some empty) None) (tells (Some without_ledger) (Some (founded with_gold))) (Ok tt)
   pub not_already_and_founded : ¬ SetUpAnswers plan (tells (Some (uncalled closed)) None) (tells (Some there) (Some (founded with_gold))) (Err Already)

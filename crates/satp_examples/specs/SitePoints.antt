@@ -1,7 +1,7 @@
 -- A site that stores `d` and then locks 250 units: the points at which it may stand, and where it may fail.
 use Rattle.std.specs.Prelude.{List, [], ◌∷◌, ◌++◌}
 use Rattle.satp_base.specs.Calls.{Told, ask_failed, call_failed, made}
-use Rattle.satp_stops.specs.Stops.{FailsIn, Kept, RestsIn, StandsAmong, StandsAt, Step, StopsIn, after_steps}
+use Rattle.satp_stops.specs.Stops.{FailsIn, Kept, RestsAmong, RestsIn, StandsAmong, StandsAt, Step, StopsIn, after_steps}
 use Rattle.satp_stops.specs.Stops.Step.{Operates, Says, Stores}
 use Rattle.satp_base.specs.Trail.{extended}
 use Rattle.satp_base.specs.declared.area.Event.{Event}
@@ -58,6 +58,15 @@ StandsSomewhere events = StandsAmong (extended at_rest.trail events) kept steps
 pub record SomePointOfSteps : Type 0 where
   pub at_the_second : StandsSomewhere append
   pub not_locked_before_the_payload_is_stored : ¬ StandsSomewhere (lock_event ∷ [])
+
+-- after these events it has come to some point
+abbrev pub RestsSomewhere : List Event → Type 0
+RestsSomewhere events = RestsAmong (extended at_rest.trail events) kept steps
+
+pub record SomePointAtRest : Type 0 where
+  pub in_the_write_of_the_gate : RestsSomewhere (frame ∷ synced ∷ gate ∷ [])
+  pub at_the_second : RestsSomewhere append
+  pub not_locked_before_the_payload_is_stored : ¬ RestsSomewhere (lock_event ∷ [])
 
 -- ---- failures
 

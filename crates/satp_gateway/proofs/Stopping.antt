@@ -9,10 +9,10 @@ use Rattle.satp_base.specs.declared.area.Area.TheVariants.{JournalA}
 use Rattle.satp_base.specs.declared.area.Event.{Event}
 use Rattle.satp_base.specs.declared.area.Event.TheVariants.{Founded}
 use Rattle.satp_base.specs.Calls.{Told, Makes, calls_of}
-use Rattle.satp_base.specs.Format.{IsPayload}
+use Rattle.satp_base.specs.Format.{IsPayload, Stands}
 use Rattle.satp_base.specs.Laws.{IsInAppend, RestsAt}
 use Rattle.satp_base.specs.Segments.{IsCut}
-use Rattle.satp_base.specs.Trail.{Trail, Standing, IsImage, KeepsModel, Leaves, extended, next, settled, standing}
+use Rattle.satp_base.specs.Trail.{Trail, Standing, IsImage, KeepsModel, Leaves, extended, next, seen, settled, standing}
 use Rattle.satp_base.proofs.Closing.{append_leaves, append_ends}
 use Rattle.satp_base.proofs.Cuts.{cut_front}
 use Rattle.satp_base.proofs.Made.{GrowsBy, made_grows}
@@ -24,6 +24,7 @@ use Rattle.satp_gateway.specs.SettingUp.{Establishes, IsVacant, Opens, Plan, Res
 use Rattle.satp_gateway.specs.SettingUp.{vacant as vacant_journal}
 use Rattle.satp_gateway.specs.SetUpStops.{HasFounded, IsInFounding, IsInSetUp, SetUpStops, VacantRests, VacantStops}
 use Rattle.satp_gateway.specs.declared.fault.SetUpFault.{SetUpFault}
+use Rattle.satp_gateway.proofs.Deciding.{opens_stands}
 use Rattle.satp_gateway.proofs.Growing.{FoundingEvents, FoundsBy, NoneFounds, OpensBy, founds_by, none_founded, none_take, opening_by, opens_by}
 
 -- a founding changes no area
@@ -96,7 +97,7 @@ module _ (p : Plan) where
     pub opening_alone : SetUpStops p (Some t) (Some m)
     opening_alone = (first, stops.1, early)
 
-    module _ (ok : IsPayload p.payload) (rests : RestsAt m.trail JournalA []) where
+    module _ (ok : IsPayload p.payload) (stands : Stands (seen t.trail JournalA) []) (rests : RestsAt m.trail JournalA []) where
       along : (es : List Event) → extended t.trail (first ++ es) ≡ extended m.trail es
       along es = sym (extended_twice t.trail first es) ∙ ap (λ (x : Trail). extended x es) (sym stops.1)
 
@@ -113,8 +114,11 @@ module _ (p : Plan) where
               let front : take n (first ++ Founded ∷ es) ≡ first ++ Founded ∷ take k es = ap (λ (i : ℕ). take i (first ++ Founded ∷ es)) is_n ∙ take-append-add first (Founded ∷ es) (suc k) in
               subst (λ (l : List Event). IsInSetUp p t.trail l image) (sym front) (record {
                 before = λ none. absurd (none (first, take k es, refl));
-                after = λ has. appended ok m.trail rests es cut keeps k image
-                    (subst (λ (x : Trail). IsImage x JournalA image) (along (Founded ∷ take k es)) (subst (λ (l : List Event). IsImage (extended t.trail l) JournalA image) front here));
+                after = λ has. (
+                  stands,
+                  appended ok m.trail rests es cut keeps k image
+                  (subst (λ (x : Trail). IsImage x JournalA image) (along (Founded ∷ take k es)) (subst (λ (l : List Event). IsImage (extended t.trail l) JournalA image) front here)),
+                );
               })
 
       pub then_founding : (u : Told) → KeepsModel u.trail → FoundsBy p (Some m) (Some u) → SetUpStops p (Some t) (Some u)
@@ -139,7 +143,7 @@ module _ (p : Plan) where
       by None m n keeps opens stops rests founds = tt
       by (Some t) m None keeps opens stops rests founds = tt
       by (Some t) None (Some u) keeps opens stops rests founds = absurd (let e = opens.2.2 in cc)
-      by (Some t) (Some m) (Some u) keeps opens stops rests founds = then_founding t m stops (opens_by [] (Some t) (Some m) opens) ok rests u (keeps u refl) founds
+      by (Some t) (Some m) (Some u) keeps opens stops rests founds = then_founding t m stops (opens_by [] (Some t) (Some m) opens) ok (opens_stands [] t (Some m) opens) rests u (keeps u refl) founds
 
   pub rests_set_up : (opened new : Option Told) → Makes (calls_of (setup_events p)) (option_map (founds p) opened) new → Rests opened vacant_journal → VacantRests p opened new → RestsSetUp p new
   rests_set_up None None is rests still = tt

@@ -1,9 +1,9 @@
 -- What a stop leaves of a set-up.
 use Rattle.std.specs.Prelude.{◌≡◌, ℕ, List, [], ◌∷◌, ◌++◌, Option, IfSome}
 use Rattle.satp_base.specs.Calls.{Told}
-use Rattle.satp_base.specs.Format.{IsAtRest}
+use Rattle.satp_base.specs.Format.{IsAtRest, Stands}
 use Rattle.satp_base.specs.Laws.{IsInAppend, RestsAt}
-use Rattle.satp_base.specs.Trail.{Trail}
+use Rattle.satp_base.specs.Trail.{Trail, seen}
 use Rattle.satp_base.specs.declared.area.Area.TheVariants.{JournalA}
 use Rattle.satp_base.specs.declared.area.Event.{Event}
 use Rattle.satp_base.specs.declared.area.Event.TheVariants.{Founded}
@@ -33,11 +33,11 @@ VacantRests p old new = RestsStill JournalA [] (p.payload ∷ []) old new
 
 -- ---- all of it
 
--- Until the founding, an image of an opening of the journal. From then on, whatever the journal's bytes were, one of the append of the set-up's record to a
--- journal without any.
+-- Until the founding, an image of an opening of the journal. A founding comes only where the journal reads as one without a record, and from then on it is an
+-- image of the append of the set-up's record to that.
 pub record IsInSetUp (p : Plan) (t : Trail) (events : List Event) (image : List ℕ) : Type 0 where
   pub before : ¬ HasFounded events → IsInOpening t JournalA events image
-  pub after : HasFounded events → IsInAppend [] p.payload image
+  pub after : HasFounded events → Stands (seen t JournalA) [] × IsInAppend [] p.payload image
 
 -- at each event of the set-up
 abbrev pub SetUpStops : Plan → Option Told → Option Told → Type 0

@@ -41,9 +41,11 @@ impl Model for Journal {
 }
 
 impl Journal {
-    /// Opens the journal of an area: syncs the area and reads it, and writes a closed gate behind its list where the area is empty or the gate there isn't 0.
+    /// Opens the journal of an area: syncs the area and reads it, and writes a closed gate after its list where the area is empty or the gate there isn't 0.
     ///
-    /// `Disk` comes only where the disk's count of faults rose. `Damaged` comes exactly where the bytes stand for no list, and leaves them as they are. It is never `Broken`.
+    /// After a stop within an append, or within another opening after it, it finds the list before the append or the one with its payload, and a stop within it leaves one of these again.
+    ///
+    /// `Disk` comes only where the disk's count of faults rose. Every other answer leaves the count as it was. `Damaged` comes exactly where the bytes stand for no list, and leaves them as they are. It is never `Broken`.
     pub fn open<D: Disk>(alloc: Global, disk: &mut D, area: Area) -> Result<Journal, JournalFault>
         ensures answers { OpenAnswers area (D.told disk.old) (D.told disk.new) result }
         ensures stops { OpenStops area (D.told disk.old) (D.told disk.new) }
@@ -99,7 +101,7 @@ impl Journal {
 
     /// Adds a payload of 1 to 4096 bytes. At `Ok` every stop from then on leaves it.
     ///
-    /// `Broken` comes exactly where a call answered `Disk` since the journal was opened. `Memory` comes before the first call on the disk, and never where enough was reserved; it leaves all as it was. `Disk` comes only where the disk's count of faults rose.
+    /// `Broken` comes exactly where a call answered `Disk` since the journal was opened. `Memory` comes before the first call on the disk, and never where enough was reserved; it leaves all as it was. `Disk` comes only where the disk's count of faults rose, and every other answer leaves it as it was.
     pub fn append<D: Disk>(&mut self, disk: &mut D, payload: &[u8]) -> Result<(), JournalFault>
         requires least { 1 ≤ length payload.now }
         requires most { length payload.now ≤ 4096 }

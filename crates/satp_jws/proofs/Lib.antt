@@ -1,5 +1,5 @@
 mod BlockLemmas
-mod HeaderLemmas
+pub mod HeaderLemmas
 mod PartLemmas
 mod VerifyLemmas
 pub mod DecodedBytes

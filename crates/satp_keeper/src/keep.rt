@@ -42,7 +42,7 @@ fn apply<C: LedgerCore>(
 
 /// Asks a ledger for an operation, and stores it where it changes an entry.
 ///
-/// All memory is found before the ledger changes. A ledger that has changed and isn't stored is told no longer: its journal is broken.
+/// All memory is found before the ledger changes. Where a ledger has changed and isn't stored, its journal is broken.
 pub(crate) fn keep<C: LedgerCore, D: Disk>(
     alloc: Global,
     core: &mut C,

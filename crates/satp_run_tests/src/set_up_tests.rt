@@ -90,7 +90,7 @@ fn first_wrong_failure(alloc: Global, way: Way, calls: u64) -> Result<Option<u64
 
 #[test]
 fn each_call_may_fail(rt: HostRuntime) -> Result<(), Fail> {
-    for (way, least) in [(Way::Run, 10), (Way::SetUp, 8)] {
+    for (way, least) in [(Way::Run, 9), (Way::SetUp, 8)] {
         let calls = count_calls(rt.alloc(), way)?;
         let wrong = first_wrong_failure(rt.alloc(), way, calls)?;
         assert_eq!(rt; (calls >= least, wrong), (true, None), "{way:?}");
@@ -116,11 +116,10 @@ fn first_wrong_stop(alloc: Global, way: Way, events: u64) -> Result<Option<(u64,
 }
 
 // The events of a set-up are: sync, a closed gate, sync, the founding, the record, sync, the open gate, sync.
-// A command opens the journal once more before it reads the genesis, which adds a sync.
 #[test]
 fn a_stop_leaves_no_gateway_or_a_whole_one(rt: HostRuntime) -> Result<(), Fail> {
-    for (way, events) in [(Way::Run, 9), (Way::SetUp, 8)] {
-        let wrong = first_wrong_stop(rt.alloc(), way, events)?;
+    for way in [Way::Run, Way::SetUp] {
+        let wrong = first_wrong_stop(rt.alloc(), way, 8)?;
         assert_eq!(rt; wrong, None, "{way:?}");
     }
     Ok(())

@@ -221,7 +221,7 @@ abbrev more : ℕ → ℕ → ℕ
 more zero n = n
 more (suc k) n = suc (more k n)
 
-still : (n : ℕ) (p : Party) (s : SessionId) (l : Slot) (b : Book) → Rests (next_of l.view.role l.view) → due_within n p s l b ≡ nothing_due l
+pub still : (n : ℕ) (p : Party) (s : SessionId) (l : Slot) (b : Book) → Rests (next_of l.view.role l.view) → due_within n p s l b ≡ nothing_due l
 still zero p s l b r = refl
 still (suc n) p s l b (inl e) = ap (due_by (due_within n p s) p s l b) e
 still (suc n) p s l b (inr e) = ap (due_by (due_within n p s) p s l b) e

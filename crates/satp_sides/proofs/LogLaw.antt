@@ -92,7 +92,7 @@ allowed-more : (role : Role) (v : View) (rs : List Rec) (r : Rec) → AreAllowed
 allowed-more role v [] r a rule = (rule, tt)
 allowed-more role v (q ∷ rs) r a rule = (a.0, allowed-more role (push v q) rs r a.1 rule)
 
-reached-more : (role : Role) (v : View) (r : Rec) → IsReached role v → RoleRule role v r → IsReached role (push v r)
+pub reached-more : (role : Role) (v : View) (r : Rec) → IsReached role v → RoleRule role v r → IsReached role (push v r)
 reached-more role v r k rule = record {
   terms = k.terms;
   recs = k.recs ++ r ∷ [];

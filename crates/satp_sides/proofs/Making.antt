@@ -45,7 +45,7 @@ pub makes : {p : Party} {side : Side} {bag : List Text} (s : SessionId) (v : Vie
     → SideMoves p side bag (with_record side s (Made (part_kind part)) (next_text s (recipient_at p v.role) p.key (chain_in s side.records) part)) bag
 makes s v part e rule f = Moves (Appends _) (record { may_come = Makes s v part e rule f; arrives = tt; fits = λ w h. tt })
 
-arrives-none : (key : List ℕ) (bag : List Text) (r : Rec) → IsNote r → ArrivesAs key bag r []
+pub arrives-none : (key : List ℕ) (bag : List Text) (r : Rec) → IsNote r → ArrivesAs key bag r []
 arrives-none key bag (Did op) n = tt
 arrives-none key bag (Chose way) n = tt
 arrives-none key bag Rescue n = tt

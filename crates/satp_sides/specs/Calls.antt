@@ -77,6 +77,16 @@ abbrev pub IsHeard : List ℕ → Call → Type 0
 IsHeard key (Hears m t e) = IsOwn key t m × IsEntryOf key m.body e
 IsHeard key call = Unit {0}
 
+-- a session that is started is one of the gateway's own name
+abbrev pub IsOfOwn : Party → Call → Type 0
+IsOfOwn p (Starts s terms) = s.gateway ≡ p.name
+IsOfOwn p call = Unit {0}
+
+-- a call of the gateway's own operator
+abbrev pub IsOperators : Call → Type 0
+IsOperators (Hears m t e) = ⊥
+IsOperators call = Unit {0}
+
 -- ---- tests
 
 abbrev pub test : Bool → Refusal → Option Refusal

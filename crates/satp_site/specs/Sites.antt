@@ -49,7 +49,7 @@ pub record HasNoSecond (old new : DirectoryState) : Type 0 where
   pub rose : Rose old.disk.faults new.disk.faults
   pub second : new.second ≡ old.second
 
--- The second disk was had, and given back with a fault of the keeper. What that is told of the disk shows in the disk's count.
+-- The second disk was had, and given back after a fault of the keeper. Its count says whether it failed itself.
 pub record GivesBack (fault : KeeperFault) (old new : DirectoryState) : Type 0 where
   pub told : new.disk.told ≡ called (called old.disk.told)
   pub faults : new.disk.faults ≡ old.disk.faults

@@ -485,8 +485,16 @@ module _ (st : Setting) (fa fb : Founding) (s : SessionId) (named : s.gateway �
       let k2 = say_b st fa fb s named _ _ _ _ _ k1 (own st.key answer) (Updates s _ 2 k1.view_b (omega arith) formed) in
       (both_sides k2.ra _ k2.rb _ k2.bag, record { reached = k2.reached; answered = length texts; carried = last_texts 2 texts; update = k2.keeps _ first; carries = ap length both ∙ long })
 
+  -- another session
+  other : (t' s' : SessionId) → (t' ≡ s' → ⊥) → is_session t' s' ≡ false
+  other t' s' n = go (is_session t' s') refl
+    where
+      go : (b : Bool) → is_session t' s' ≡ b → is_session t' s' ≡ false
+      go false e = e
+      go true e = absurd (n (is-session t' s' e))
+
   -- the second gateway proposes a session of its own, and the first takes it
-  beside : (t : SessionId) → t.gateway ≡ st.b → (world : World) × Beside st fa fb s t world
+  beside : (t : SessionId) → t.gateway ≡ st.b → (world : World) × Beside st fa fb s B t world
   beside t theirs =
       let p = next_text s st.b st.key [] (Proposal terms) in
       let q = next_text t st.a st.key [] (Proposal terms) in
@@ -516,18 +524,44 @@ module _ (st : Setting) (fa fb : Founding) (s : SessionId) (named : s.gateway �
         },
       )
     where
-      other : (t' s' : SessionId) → (t' ≡ s' → ⊥) → is_session t' s' ≡ false
-      other t' s' n = go (is_session t' s') refl
-        where
-          go : (b : Bool) → is_session t' s' ≡ b → is_session t' s' ≡ false
-          go false e = e
-          go true e = absurd (n (is-session t' s' e))
-
       apart : is_session t s ≡ false
       apart = other t s (λ e. st.differ (sym named ∙ sym (ap (λ (x : SessionId). x.gateway) e) ∙ theirs))
 
       apart-too : is_session s t ≡ false
       apart-too = other s t (λ e. st.differ (sym named ∙ ap (λ (x : SessionId). x.gateway) e ∙ theirs))
+
+  -- the first gateway proposes another session, and the second takes it
+  second : (t : SessionId) → t.gateway ≡ st.a → t ≢ s → (world : World) × Beside st fa fb s A t world
+  second t ours differ =
+      let p = next_text s st.b st.key [] (Proposal terms) in
+      let q = next_text t st.b st.key [] (Proposal terms) in
+      let x = stored s (Began Origin terms) p in
+      let y = stored s (Began Recipient terms) p in
+      let u = stored t (Began Origin terms) q in
+      let v = stored t (Began Recipient terms) q in
+      let apart = other t s differ in
+      let apart-too = other s t (λ e. differ (sym e)) in
+      let none_a = records-apart t [] x apart in
+      let none_b = records-apart t [] y apart in
+      let view_x = view-first s [] x (session-self s) refl in
+      let view_y = view-first s [] y (session-self s) refl in
+      let chain_x = chain-here s [] x (session-self s) in
+      let view_u = view-first t (x ∷ []) u (session-self t) none_a in
+      let view_v = view-first t (y ∷ []) v (session-self t) none_b in
+      let chain_u : chain_in t (x ∷ u ∷ []) ≡ q ∷ [] = chain-here t (x ∷ []) u (session-self t) ∙ ap (λ ts. ts ++ q ∷ []) (chain-none t (x ∷ []) none_a) in
+      let w1 : Reached st fa fb (both_sides (x ∷ []) (first_book fa) [] (first_book fb) []) = Goes _ _ Begins (By A _ _ (proposes s terms named refl (omega arith))) in
+      let w2 : Reached st fa fb (both_sides (x ∷ []) (first_book fa) [] (first_book fb) (p ∷ [])) = Goes _ _ w1 (By A _ _ (says p (Own_text s (begin Origin terms) 0 p view_x (ap (λ ts. slice_get ts 0) chain_x) refl))) in
+      let w3 : Reached st fa fb (both_sides (x ∷ []) (first_book fa) (y ∷ []) (first_book fb) (p ∷ [])) = Goes _ _ w2 (By B _ _ (accepts s terms p named refl (omega arith) (Alone first) refl)) in
+      let w4 : Reached st fa fb (both_sides (x ∷ u ∷ []) (first_book fa) (y ∷ []) (first_book fb) (p ∷ [])) = Goes _ _ w3 (By A _ _ (proposes t terms ours none_a (omega arith))) in
+      let w5 : Reached st fa fb (both_sides (x ∷ u ∷ []) (first_book fa) (y ∷ []) (first_book fb) (q ∷ p ∷ [])) = Goes _ _ w4 (By A _ _ (says q (Own_text t (begin Origin terms) 0 q view_u (ap (λ ts. slice_get ts 0) chain_u) refl))) in
+      let w6 : Reached st fa fb (both_sides (x ∷ u ∷ []) (first_book fa) (y ∷ v ∷ []) (first_book fb) (q ∷ p ∷ [])) = Goes _ _ w5 (By B _ _ (accepts t terms q ours none_b (omega arith) (Alone first) refl)) in (
+        both_sides (x ∷ u ∷ []) (first_book fa) (y ∷ v ∷ []) (first_book fb) (q ∷ p ∷ []),
+        record {
+          reached = w6;
+          first = (ap tale_of (view-apart s (x ∷ []) u apart-too ∙ view_x), ap tale_of (view-apart s (y ∷ []) v apart-too ∙ view_y));
+          second = (ap tale_of view_u, ap tale_of view_v);
+        },
+      )
 
 -- ---- a case in which both ledgers allow the transfer
 
@@ -608,6 +642,7 @@ each_ending st a b s terms named = record {
   recipient_says_again = recipient_says_again st a b s named terms;
   says_two = says_two st a b s named terms;
   beside = beside st a b s named terms;
+  second = second st a b s named terms;
 }
 
 pub law_endings : LawEndings

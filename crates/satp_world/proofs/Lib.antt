@@ -32,3 +32,11 @@ pub mod Limits
 pub mod SenderLaw
 pub mod RoomLaw
 pub mod WorldLaw
+pub mod DueMoves
+pub mod WorkLaw
+pub mod RestTable
+pub mod RestCheck
+pub mod Replies
+pub mod RunLaw
+pub mod HearLaw
+pub mod RunHear

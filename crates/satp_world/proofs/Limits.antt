@@ -124,7 +124,7 @@ said-of-session st a b w r g _ (Updates s v n e c f) = Named v e
 said-of-session st a b w r g _ (Succeeds s v e f) = Named v e
 said-of-session st a b w r g _ (Knows_none m n l p e f q i k z) = Asked m n l f refl q i k refl
 
-idle : (st : Setting) (g : Gateway) (s : SessionId) → IsMessage (message_from (party_at st g) s (body.Update 0 []))
+pub idle : (st : Setting) (g : Gateway) (s : SessionId) → IsMessage (message_from (party_at st g) s (body.Update 0 []))
 idle st g s = ((omega arith, refl), tt)
 
 same-message : (st : Setting) (m n : Message) (t : Text) → IsMessage m → IsMessage n → t ≡ own st.key m → t ≡ own st.key n → m ≡ n

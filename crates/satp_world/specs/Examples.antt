@@ -1,5 +1,5 @@
 -- Whole sessions as lists of moves from the beginning: each ending can be reached, over texts and ledgers.
-use Rattle.std.specs.Prelude.{IsTrue, ◌≡◌, ℕ, ◌<◌, List, [], ◌∷◌, ◌+◌, ◌++◌, take, length, Some, None}
+use Rattle.std.specs.Prelude.{◌≢◌, IsTrue, ◌≡◌, ℕ, ◌<◌, List, [], ◌∷◌, ◌+◌, ◌++◌, take, length, Some, None}
 use Rattle.std.specs.FinMap as map_of
 use Rattle.satp_base.specs.Founding.{Founding}
 use Rattle.satp_base.specs.Money.{Book, cap_of, free_of, total_of}
@@ -71,11 +71,11 @@ CanTurn st a b s tale mine peer =
     (world : World) × Ends st a b s tale mine peer world
     × ((v : View) × (view_in s world.a.records ≡ Some v) × (v.way ≡ Some (Back Aborted)) × IsTrue v.done.lock)
 
--- both sides have begun two sessions, one of each gateway's name
-pub record Beside (st : Setting) (a b : Founding) (s t : SessionId) (world : World) : Type 0 where
+-- both sides have begun two sessions, one of the first gateway's name and one of this gateway's
+pub record Beside (st : Setting) (a b : Founding) (s : SessionId) (g : Gateway) (t : SessionId) (world : World) : Type 0 where
   pub reached : Reached st a b world
   pub first : (tale_of (session_in world A s).a ≡ take 1 eleven) × (tale_of (session_in world A s).b ≡ take 1 eleven)
-  pub second : (tale_of (session_in world B t).a ≡ take 1 eleven) × (tale_of (session_in world B t).b ≡ take 1 eleven)
+  pub second : (tale_of (session_in world g t).a ≡ take 1 eleven) × (tale_of (session_in world g t).b ≡ take 1 eleven)
 
 -- the recipient has said an update with so many messages
 pub record SaysSo (st : Setting) (a b : Founding) (s : SessionId) (entries : ℕ) (world : World) : Type 0 where
@@ -116,8 +116,9 @@ pub record Endings (st : Setting) (a b : Founding) (s : SessionId) (terms : Term
   pub aborts_ready : Allows (first_book a) Lock terms → Allows (first_book b) Mint terms → CanEnd st a b s (take 8 eleven ++ rolled_back) Released Released
   -- an update has two messages
   pub says_two : (world : World) × SaysSo st a b s 2 world
-  -- a session of the second gateway's name stands beside it
-  pub beside : (t : SessionId) → t.gateway ≡ st.b → (world : World) × Beside st a b s t world
+  -- a session of the second gateway's name stands beside it, or another one of the first's
+  pub beside : (t : SessionId) → t.gateway ≡ st.b → (world : World) × Beside st a b s B t world
+  pub second : (t : SessionId) → t.gateway ≡ st.a → t ≢ s → (world : World) × Beside st a b s A t world
   -- the proposal is lost and the origin stops: the recipient knows nothing of it, it is said again, and the session is rolled back
   pub proposes_again : CanRecover st a b A s 0 (take 2 eleven ++ rolled_back) Released Absent
   -- commit-prepare is lost and the origin stops: it is said again in the round, and the session commits

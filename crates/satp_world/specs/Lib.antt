@@ -7,3 +7,4 @@ pub mod Totals
 pub mod Limits
 pub mod Kept
 pub mod Standing
+pub mod Work

@@ -6,6 +6,7 @@
 ghost use Rattle.satp_world.specs.Deal.{LawDeals};
 ghost use Rattle.satp_world.specs.Sessions.{LawSessions, LawStep};
 ghost use Rattle.satp_world.specs.Standing.{BeginningStands, MovesStand, SessionsRun, SessionsRunFromTheFirst};
+ghost use Rattle.satp_world.specs.Work.{OperatorsRunsMove, WorkMoves};
 ghost use Rattle.satp_world.specs.Worlds.{LawSafety};
 ghost use Rattle.satp_world.specs.Examples.{LawEndings};
 ghost use Rattle.satp_world.specs.Ledgers.{AfterFits, AgreedIsAnswered, RuleAgrees};
@@ -87,4 +88,12 @@ pub fn law_kept()
     ensures sender { SenderKnows }
     ensures room { RoomLeft }
     ensures short { SaidIsShort }
+{}
+
+/// In every world that moves of both gateways lead to, the due work of each session that a side's records name is in
+/// order, and its moves are moves: so they lead on to such a world. The same of whatever an operator asks of a gateway:
+/// a start, a work, an abort or a rescue is refused, or its moves are moves and it has an answer.
+pub fn law_work()
+    ensures due { WorkMoves }
+    ensures operators { OperatorsRunsMove }
 {}

@@ -9,6 +9,7 @@ loop-done-preserved g c =
     let gains = subst (λ (p : List ℕ). Gains (g.K.Sink.taken c.loop-done.out) p c.in-Ok.more (g.K.Sink.taken c.write.new.self)) (rest_of c.loop-done.done bytes) c.in-Ok.ensures.ok in
     record {
       faults = c.in-Ok.ensures.kept ∙ c.loop-done.invariant.faults;
+      whole = c.in-Ok.ensures.failed;
       within = omega (arith, gains.within, length-drop {A = ℕ} c.loop-done.done bytes, c.loop-done-test.true);
       told = wrote_more _ _ _ bytes c.loop-done.done _ c.loop-done.invariant.told gains;
     }

@@ -1,9 +1,9 @@
-use Rattle.std.proofs.Common.{◌≡◌, ◌≤◌, ◌<◌, ℕ, zero, suc, List, [], ◌∷◌, length, take, Some, refl, ap, subst, arith, lit≤, lit<}
+use Rattle.std.proofs.Common.{◌≡◌, ◌≤◌, ◌<◌, ℕ, zero, suc, List, [], ◌∷◌, length, take, Some, refl, ap, subst, inl, inr, arith, lit≤, lit<}
 use Rattle.std.specs.Fmt.{digits}
 use Rattle.satp_app.specs.Texts.{without_newline}
 use Rattle.satp_app.specs.declared.outcome.Outcome.TheVariants as outcome
 use Rattle.satp_app.specs.declared.reply.Reply.TheVariants.{Lines}
-use Rattle.satp_examples.specs.Commands.{Ends, ab, input, out}
+use Rattle.satp_examples.specs.Commands.{Ends, ab, failed, input, out, over}
 use Rattle.satp_examples.proofs.commands.law_commands.Goals as goal
 
 -- the text on an input is no longer than two bytes
@@ -28,25 +28,28 @@ not_all lines k is h e = part k (subst (λ x. k < length x) is h) (subst (λ x. 
 nothing_printed : (lines : List ℕ) → lines ≡ ab → Some [] ≡ Some lines → ⊥
 nothing_printed lines is e = absurd cc
 
-without_output : ¬ Ends ab (input 0 []) (out 0 []) outcome.Done
-without_output (r, (lines, replies, p)) = nothing_printed lines (said lines replies.bytes replies.is_input replies.said) p.1
+without_output : ¬ Ends ab (over 0 []) (out 0 []) outcome.Done
+without_output (r, (lines, replies, p)) = nothing_printed lines (said lines replies.bytes replies.is_input replies.said) p.2
 
-behind_all : ¬ Ends ab (input 0 []) (out 1 ab) outcome.OutputFailed
-behind_all (r, (lines, replies, (rose, (k, less, is)))) = not_all lines k (said lines replies.bytes replies.is_input replies.said) less is
+after_all : ¬ Ends ab (over 0 []) (failed 1 ab) outcome.OutputFailed
+after_all (r, (lines, replies, (rose, has_failed, (k, less, is)))) = not_all lines k (said lines replies.bytes replies.is_input replies.said) less is
 
 pub returns-clause-ends : goal.returns-clause-ends
 returns-clause-ends c = record {
-  done = ((refl, refl), (ab, record { bytes = 97 ∷ 98 ∷ 10 ∷ []; is_input = refl; short = lit≤ tt; said = refl }, (refl, refl)));
-  too_long = ((refl, refl), record { bytes = 97 ∷ 98 ∷ 99 ∷ []; is_input = refl; long = lit< tt }, refl);
-  output_failed = ((refl, refl), (ab, record { bytes = ab; is_input = refl; short = lit≤ tt; said = refl }, (lit≤ tt, (1, lit< tt, refl))));
-  input_failed = (lit≤ tt, (1, lit≤ tt, refl), refl);
-  no_memory = (refl, (1, lit≤ tt, refl), refl);
+  done = ((refl, (refl, refl)), (ab, record { bytes = 97 ∷ 98 ∷ 10 ∷ []; is_input = refl; short = lit≤ tt; said = refl }, (refl, refl, refl)));
+  too_long = ((refl, (refl, refl)), record { bytes = 97 ∷ 98 ∷ 99 ∷ []; is_input = refl; long = lit< tt }, refl);
+  output_failed = ((refl, (refl, refl)), (ab, record { bytes = ab; is_input = refl; short = lit≤ tt; said = refl }, (lit≤ tt, refl, (1, lit< tt, refl))));
+  input_failed = ((lit≤ tt, refl, (1, lit≤ tt, refl)), refl);
+  no_memory = (inl (refl, refl, (1, lit≤ tt, refl)), refl);
+  no_memory_for_the_reply = (inr (refl, (refl, refl)), refl);
   not_done_past_the_longest = λ taken h. let replies = h.1.1 in let bad : 3 ≤ 2 = short replies.bytes (97 ∷ 98 ∷ 99 ∷ []) replies.is_input replies.short in absurd (omega (arith, bad));
   not_done_without_output = without_output;
-  not_done_unread = λ h. let bad = h.0.1 in absurd cc;
+  not_done_unread = λ h. let bad = h.0.1.0 in absurd cc;
   not_long_with_a_newline = λ h. let bad : 2 < 2 = long h.1.bytes (97 ∷ 98 ∷ 10 ∷ []) h.1.is_input h.1.long in absurd (omega (arith, bad));
-  not_failed_without_a_fault = λ h. let bad : 1 ≤ 0 = h.0 in absurd (omega (arith, bad));
-  not_failed_behind_all = behind_all;
+  not_failed_without_a_fault = λ h. let bad : 1 ≤ 0 = h.0.0 in absurd (omega (arith, bad));
+  not_failed_and_read_on = λ h. let bad = h.0.1 in absurd cc;
+  not_failed_after_all = after_all;
+  not_failed_and_written_on = λ h. let bad = h.1.2.1 in absurd cc;
   not_refused = λ h. let bad = h.1.said in absurd cc;
   no_site = λ h. h;
 }

@@ -1,10 +1,10 @@
 use Rattle.std.specs.List.{flat_map}
 use Rattle.std.specs.Prelude.{slice_index}
-use Rattle.std.proofs.Common.{◌≡◌, ◌≢◌, ◌<◌, ◌≤◌, ◌⊎◌, ℕ, zero, suc, List, [], ◌∷◌, ◌++◌, length, take, Some, refl, sym, ap, subst, inl, inr, arith, lit<, rules}
+use Rattle.std.proofs.Common.{◌≡◌, ◌≢◌, ◌<◌, ◌≤◌, ◌⊎◌, ℕ, zero, suc, List, [], ◌∷◌, ◌++◌, length, take, Some, refl, sym, ap, ◌∙◌, subst, inl, inr, arith, lit<, rules, length-append}
 use Rattle.satp_base.specs.Calls.{Told, made}
 use Rattle.satp_base.specs.Format.{Damage, EndsAt, IsMendable, IsPayload, Stands, StandsOpened, records}
 use Rattle.satp_base.specs.Segments.{IsCut, open_events}
-use Rattle.satp_base.specs.Laws.{IsInAppend, IsInMend}
+use Rattle.satp_base.specs.Laws.{IsEither, IsInAppend, IsInMend}
 use Rattle.satp_base.specs.Trail.{IsImage, KeepsModel, Trail, extended}
 use Rattle.satp_base.specs.declared.area.Area.TheVariants.{JournalA}
 use Rattle.satp_base.specs.declared.area.Event.{Event}
@@ -12,9 +12,9 @@ use Rattle.satp_base.specs.declared.area.Event.TheVariants.{Wrote, Cut, Left}
 use Rattle.satp_base.proofs.Closing.{append_ends, either_stands}
 use Rattle.satp_base.proofs.Readings.{never_both, one_end, one_list}
 use Rattle.satp_base.proofs.Reopens.{reopen_leaves}
-use Rattle.satp_base.proofs.Standings.{one_free, only_settled}
+use Rattle.satp_base.proofs.Standings.{one_free, only_settled, take_nil}
 use Rattle.satp_base.proofs.Trails.{keeps_front}
-use Rattle.satp_journal.proofs.AppendLemmas.{Keeps, append_stops}
+use Rattle.satp_journal.proofs.AppendLemmas.{Keeps, append_rests, append_stops}
 use Rattle.satp_journal.proofs.OpenLemmas.{OpensBy as Cuts, in_opening}
 use Rattle.satp_journal.specs.Appending.{AtEach}
 use Rattle.satp_journal.specs.Opening.{IsInOpening}
@@ -129,6 +129,43 @@ returns-clause-append c = record {
   not_without_the_payload = λ h. unlike 1 0 (inr (lit< tt)) (ap (λ xs. slice_index xs 6) (h at_start with_both (search rules)).1.bytes);
   rests = at_start;
   not_with_a_payload_more = λ h. unlike 0 1 (inl (lit< tt)) (ap (λ xs. slice_index xs 6) (h closed (search rules)).1.bytes);
+}
+
+-- ---- gates and lists
+
+-- a cut of the first two events is no cut that has the third
+no_gate_yet : (events : List Event) → IsCut (take 2 append) events → 2 < length events → (more : List Event) → events ≡ frame ∷ synced ∷ gate ∷ more → ⊥
+no_gate_yet events (zero, inl is) long more e = absurd cc
+no_gate_yet events (zero, inr (area, bytes, of, is)) long more e = absurd cc
+no_gate_yet events (suc zero, inl is) long more e = absurd cc
+no_gate_yet events (suc zero, inr (area, bytes, of, is)) long more e = absurd cc
+no_gate_yet events (suc (suc n), inl is) long more e = let cut = is ∙ ap (λ (l : List Event). frame ∷ synced ∷ l) (take_nil n) in absurd cc
+no_gate_yet events (suc (suc n), inr (area, bytes, of, is)) long more e = let cut = is ∙ ap (λ (l : List Event). frame ∷ synced ∷ l ++ Left area bytes ∷ []) (take_nil n) in absurd cc
+
+not_whole : (front more : List Event) → length front < 4 → front ≡ append ++ more → ⊥
+not_whole front more short e = let same : length front ≡ length (append ++ more) = ap length e in omega (arith, short, same, length-append append more)
+
+pub returns-clause-gates : goal.returns-clause-gates
+returns-clause-gates c = record {
+  closed_before_its_write = record { before = λ cut. refl; after = λ more e. absurd (not_whole (frame ∷ synced ∷ []) more (lit< tt) e) };
+  any_byte_in_its_write = record { before = λ cut. absurd (no_gate_yet _ cut (lit< tt) [] refl); after = λ more e. absurd (not_whole (frame ∷ synced ∷ gate ∷ []) more (lit< tt) e) };
+  open_after_its_sync = record { before = λ cut. absurd (no_gate_yet _ cut (lit< tt) (synced ∷ []) refl); after = λ more e. refl };
+  not_open_before_its_write = λ g. unlike 1 0 (inr (lit< tt)) (g.before (2, inl refl));
+  not_another_byte_after_its_sync = λ g. unlike 7 1 (inr (lit< tt)) (g.after [] refl);
+}
+
+neither : IsEither (abc ∷ []) d (d ∷ []) → ⊥
+neither (inl same) = absurd cc
+neither (inr same) = absurd cc
+
+pub returns-clause-lists : goal.returns-clause-lists
+returns-clause-lists c = record {
+  the_list = append_rests d (held (abc ∷ [])) d_fits (Some at_rest) (Some (made 4 append at_rest)) (keeps_told _ (λ area. tt)) refl;
+  another_as_long = append_rests d (held ((120 ∷ 121 ∷ 122 ∷ []) ∷ [])) d_fits (Some at_rest) (Some (made 4 append at_rest)) (keeps_told _ (λ area. tt)) refl;
+  not_without_the_last_sync = λ h. unlike 7 1 (inr (lit< tt)) (ap (λ xs. slice_index xs 6) (h (abc ∷ []) refl at_start in_the_write (search rules)).1.bytes);
+  shorter = inl refl;
+  longer = inr refl;
+  neither = neither;
 }
 
 -- ---- a mend

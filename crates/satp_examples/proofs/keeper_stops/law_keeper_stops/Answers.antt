@@ -1,10 +1,10 @@
-use Rattle.std.proofs.Common.{◌≡◌, ◌<◌, ◌≤◌, ℕ, zero, suc, false, List, [], ◌∷◌, Option, Some, None, option_map, take, refl, sym, ap, ◌∙◌, subst, inl, inr, arith, lit≤, lit<, rules}
+use Rattle.std.proofs.Common.{◌≡◌, ◌<◌, ◌≤◌, ℕ, zero, suc, false, List, [], ◌∷◌, Option, Some, None, take, refl, sym, ap, ◌∙◌, subst, inl, inr, arith, lit≤, lit<, rules}
 use Rattle.std.specs.List.{flat_map}
 use Rattle.std.specs.Option.{option_map_or}
 use Rattle.std.specs.Prelude.{slice_index}
-use Rattle.satp_base.specs.Calls.{FailsAmong, Told, made, risen}
+use Rattle.satp_base.specs.Calls.{FailsAmong, FailsAt, Told, made, risen}
 use Rattle.satp_base.specs.Format.{Damage, NoRecord, Stands}
-use Rattle.satp_base.specs.Segments.{IsCut, shut_events}
+use Rattle.satp_base.specs.Segments.{IsCut}
 use Rattle.satp_base.specs.Trail.{IsImage, KeepsModel, Trail, extended, seen}
 use Rattle.satp_base.specs.declared.area.Area.TheVariants.{Ledger}
 use Rattle.satp_base.specs.declared.area.Event.{Event}
@@ -13,16 +13,17 @@ use Rattle.satp_base.specs.declared.ledger.LedgerKind.TheVariants.{Accounts}
 use Rattle.satp_base.proofs.Readings.{never_both, one_list}
 use Rattle.satp_journal.proofs.AppendLemmas.{Keeps}
 use Rattle.satp_keeper.specs.Books.{IsFirstRefused, Leaves, ledger_payloads}
-use Rattle.satp_keeper.specs.Founding.{FailsAt, UnfoundedBy, found_events}
+use Rattle.satp_keeper.specs.Founding.{found_events}
 use Rattle.satp_keeper.specs.Opening.{Opened}
 use Rattle.satp_keeper.proofs.Foundings.{founded_stops, unfounded_stops}
 use Rattle.satp_keeper.proofs.Reading.{books_one}
 use Rattle.satp_keeper.specs.declared.fault.KeeperFault.TheVariants as keeper
 use Rattle.satp_examples.specs.Acts.{locked}
 use Rattle.satp_examples.specs.Appending.{closed, damaged, uncalled}
+use Rattle.satp_examples.specs.Calls.{failed_by}
 use Rattle.satp_examples.specs.Journals.{abc, d}
 use Rattle.satp_examples.specs.Keepers.{accounts, lock, outputs}
-use Rattle.satp_examples.specs.KeeperStops.{FailsBy, FoundsBy, IsUnfounded, LeavesBehind, cut_and_opened, filled, founding, of_accounts, of_outputs, synced}
+use Rattle.satp_examples.specs.KeeperStops.{FailsBy, FailsToFound, FoundsBy, IsUnfounded, LeavesBehind, filled, founding, of_accounts, of_outputs, synced}
 use Rattle.satp_examples.specs.Ledgers.{new_book, with_gold}
 use Rattle.satp_examples.proofs.Books.{gold_genesis, lock_changes, lock_rule}
 use Rattle.satp_examples.proofs.Images.{is_damaged, is_whole}
@@ -53,27 +54,31 @@ no_second f = let within : 1 < 1 = f.within in omega (arith, within)
 abbrev count : Option Told → ℕ
 count o = option_map_or (λ (t : Told). t.calls) o 0
 
-uncounted_sync : FailsAmong Ledger (synced ∷ []) (Some (uncalled of_accounts)) (Some (uncalled of_accounts)) → ⊥
-uncounted_sync (zero, event, is, (events, fails, e)) = let bad : 0 ≡ 1 = ap count e in omega (arith, bad)
-uncounted_sync (suc n, event, is, rest) = absurd cc
+abbrev failure : Option Told → Option ℕ
+failure o = option_map_or (λ (t : Told). t.last_failed) o None
 
-uncounted_gate : (image : List ℕ) (gate : ℕ) → FailsAmong Ledger (shut_events Ledger gate) (option_map (made 3 (synced ∷ [])) (Some (uncalled image))) (Some (uncalled image)) → ⊥
-uncounted_gate image gate (zero, event, is, (events, fails, e)) = let bad : 0 ≡ 4 = ap count e in omega (arith, bad)
-uncounted_gate image gate (suc zero, event, is, (events, fails, e)) = let bad : 0 ≡ 5 = ap count e in omega (arith, bad)
-uncounted_gate image gate (suc (suc n), event, is, rest) = absurd cc
+-- a failed call counts, and is told as the last that failed
+counts : (call : Option Event) (mid : Told) (new : Option Told) → FailsAt call (Some mid) new → count new ≡ risen mid.calls 1
+counts None mid new is = ap count is
+counts (Some event) mid new (added, fails, is) = ap count is
+
+marks : (call : Option Event) (mid : Told) (new : Option Told) → FailsAt call (Some mid) new → failure new ≡ Some (risen mid.calls 1)
+marks None mid new is = ap failure is
+marks (Some event) mid new (added, fails, is) = ap failure is
+
+unmarked : (calls : List (Option Event)) (old new : Told) → new.last_failed ≡ None → FailsAmong calls (Some old) (Some new) → ⊥
+unmarked calls old new none (n, call, is, fails) = let bad = sym none ∙ marks call _ _ fails in absurd cc
 
 no_call : ¬ FailsBy of_accounts 0 [] keeper.Disk
-no_call (inl fails) = uncounted_sync fails
-no_call (inr (inl e)) = let bad : 0 ≡ 2 = ap count e in omega (arith, bad)
-no_call (inr (inr (inl e))) = let bad : 0 ≡ 3 = ap count e in omega (arith, bad)
-no_call (inr (inr (inr (image, held, finds, wants, fails)))) = uncounted_gate of_accounts _ fails
+no_call (inl fails) = unmarked _ (uncalled of_accounts) _ refl fails
+no_call (inr (image, held, finds, fails)) = unmarked _ (uncalled of_accounts) _ refl fails
 
 pub returns-clause-unopened : goal.returns-clause-unopened
 returns-clause-unopened c = record {
   empty = (record { held = record { area = Ledger; payloads = []; broken = false }; spare_records = 0; spare_bytes = 0 }, ([], (refl, search rules, refl, refl), refl), refl);
   of_another_kind = (outputs ∷ [], (record { held = record { area = Ledger; payloads = outputs ∷ []; broken = false }; spare_records = 0; spare_bytes = 0 }, (of_outputs, (refl, outputs_stand, refl, refl), refl), refl), record { within = lit< tt; before = inl refl; refused = other_kind });
   damaged_journal = (damaged, refl, is_damaged, refl);
-  failed_sync = inl (0, synced, refl, ([], inl refl, refl));
+  failed_sync = inl (0, Some synced, refl, ([], inl refl, refl));
   no_memory = inl (inr refl);
   not_empty_with_a_record = not_empty _;
   not_by_a_record_of_its_kind = λ index h. good_record index (subst (λ p. IsFirstRefused Accounts p index) (opened_list of_accounts h.0 (accounts ∷ []) _ accounts_stand h.1) h.2);
@@ -102,44 +107,33 @@ returns-clause-calls c = record {
   not_with_another_payload = λ e. let bad : 101 ≡ 100 = ap byte e in absurd (omega (arith, bad));
 }
 
--- the call that fails counts
-count_is : (call : Option Event) (k : ℕ) (es : List Event) (mid new : Option Told) → mid ≡ Some (made k es filled) → FailsAt call mid new → count new ≡ risen (risen 0 k) 1
-count_is None k es mid new is fails = ap count (fails ∙ ap (option_map (made 1 [])) is)
-count_is (Some e) k es mid new is (fs, failure, told) = ap count (told ∙ ap (option_map (made 1 fs)) is)
-
-one_more : (k : ℕ) → 0 ≡ risen (risen 0 k) 1 → ⊥
+one_more : (k : ℕ) → 1 ≡ risen (risen 0 (suc k)) 1 → ⊥
 one_more k e = omega (arith, e)
 
-two_more : (k : ℕ) → 1 ≡ risen (risen 0 (suc k)) 1 → ⊥
+two_more : (k : ℕ) → 2 ≡ risen (risen 0 (suc (suc k))) 1 → ⊥
 two_more k e = omega (arith, e)
 
-three_more : (k : ℕ) → 2 ≡ risen (risen 0 (suc (suc k))) 1 → ⊥
-three_more k e = omega (arith, e)
+first_fails : (call : Option Event) → Some (Some (Cut Ledger 0)) ≡ Some call → FailsAt call (Some (made 0 [] filled)) (Some (failed_by 1 (Cut Ledger 0 ∷ synced ∷ []) filled)) → ⊥
+first_fails None at fails = absurd cc
+first_fails (Some x) at (fs, inl none, told) = let more = ap events_of told in absurd cc
+first_fails (Some x) at (fs, inr (inl one), told) = let more = ap events_of told in absurd cc
+first_fails (Some x) at (fs, inr (inr (area, bytes, of, two)), told) = let more = ap events_of told in absurd cc
 
-no_call_failed : ¬ UnfoundedBy (d ∷ []) (Some filled) (Some filled) keeper.Disk
-no_call_failed (n, call, at, (mid, makes, fails)) = one_more _ (count_is call _ _ mid _ makes fails)
+one_call_too_few : ¬ FailsToFound 1 (Cut Ledger 0 ∷ synced ∷ [])
+one_call_too_few (zero, call, at, fails) = first_fails call at fails
+one_call_too_few (suc n, call, at, fails) = one_more _ (counts call _ _ fails)
 
-first_fails : (call : Option Event) (mid : Option Told) → Some (Some (Cut Ledger 0)) ≡ Some call → mid ≡ Some (made 0 [] filled) → FailsAt call mid (Some (made 1 (Cut Ledger 0 ∷ synced ∷ []) filled)) → ⊥
-first_fails None mid at is fails = absurd cc
-first_fails (Some x) mid at is (fs, inl none, told) = let more = ap events_of (told ∙ ap (option_map (made 1 fs)) is) in absurd cc
-first_fails (Some x) mid at is (fs, inr (inl one), told) = let more = ap events_of (told ∙ ap (option_map (made 1 fs)) is) in absurd cc
-first_fails (Some x) mid at is (fs, inr (inr (bytes, two)), told) = let more = ap events_of (told ∙ ap (option_map (made 1 fs)) is) in absurd cc
+-- after the cut only its sync is called
+second_fails : (e : Event) (call : Option Event) → Some (Some synced) ≡ Some call → FailsAt call (Some (made 1 (Cut Ledger 0 ∷ []) filled)) (Some (failed_by 2 (Cut Ledger 0 ∷ e ∷ []) filled)) → e ≡ synced
+second_fails e None at fails = absurd cc
+second_fails e (Some x) at (fs, inl none, told) = let more = ap events_of told in absurd cc
+second_fails e (Some x) at (fs, inr (inl one), told) = let more = ap events_of told in cc
+second_fails e (Some x) at (fs, inr (inr (area, bytes, of, two)), told) = let more = ap events_of told in absurd cc
 
-one_call_too_few : ¬ IsUnfounded 1 (Cut Ledger 0 ∷ synced ∷ []) keeper.Disk
-one_call_too_few (zero, call, at, (mid, makes, fails)) = first_fails call mid at makes fails
-one_call_too_few (suc n, call, at, (mid, makes, fails)) = two_more _ (count_is call _ _ mid _ makes fails)
-
--- behind the cut only its sync is called
-second_fails : (e : Event) (call : Option Event) (mid : Option Told) → Some (Some synced) ≡ Some call → mid ≡ Some (made 1 (Cut Ledger 0 ∷ []) filled) → FailsAt call mid (Some (made 2 (Cut Ledger 0 ∷ e ∷ []) filled)) → e ≡ synced
-second_fails e None mid at is fails = absurd cc
-second_fails e (Some x) mid at is (fs, inl none, told) = let more = ap events_of (told ∙ ap (option_map (made 1 fs)) is) in absurd cc
-second_fails e (Some x) mid at is (fs, inr (inl one), told) = let more = ap events_of (told ∙ ap (option_map (made 1 fs)) is) in cc
-second_fails e (Some x) mid at is (fs, inr (inr (bytes, two)), told) = let more = ap events_of (told ∙ ap (option_map (made 1 fs)) is) in absurd cc
-
-behind_the_cut : (e : Event) → IsUnfounded 2 (Cut Ledger 0 ∷ e ∷ []) keeper.Disk → e ≡ synced
-behind_the_cut e (zero, call, at, (mid, makes, fails)) = let bad : 2 ≡ 1 = count_is call 0 [] mid _ makes fails in absurd (omega (arith, bad))
-behind_the_cut e (suc zero, call, at, (mid, makes, fails)) = second_fails e call mid at makes fails
-behind_the_cut e (suc (suc n), call, at, (mid, makes, fails)) = absurd (three_more _ (count_is call _ _ mid _ makes fails))
+after_the_cut : (e : Event) → FailsToFound 2 (Cut Ledger 0 ∷ e ∷ []) → e ≡ synced
+after_the_cut e (zero, call, at, fails) = let bad : 2 ≡ 1 = counts call _ _ fails in absurd (omega (arith, bad))
+after_the_cut e (suc zero, call, at, fails) = second_fails e call at fails
+after_the_cut e (suc (suc n), call, at, fails) = absurd (two_more _ (counts call _ _ fails))
 
 no_memory_behind : ¬ IsUnfounded 10 founding keeper.Memory
 no_memory_behind (inl e) = let bad : 10 ≡ 0 = ap count e in omega (arith, bad)
@@ -147,22 +141,23 @@ no_memory_behind (inr (inl e)) = let bad : 10 ≡ 3 = ap count e in omega (arith
 no_memory_behind (inr (inr (inl e))) = let bad : 10 ≡ 4 = ap count e in omega (arith, bad)
 no_memory_behind (inr (inr (inr e))) = let bad : 10 ≡ 6 = ap count e in omega (arith, bad)
 
-cut_failed : IsUnfounded 1 (Cut Ledger 0 ∷ []) keeper.Disk
-cut_failed = (0, Some (Cut Ledger 0), refl, (Some filled, refl, (Cut Ledger 0 ∷ [], inr (inl refl), refl)))
+cut_failed : FailsToFound 1 (Cut Ledger 0 ∷ [])
+cut_failed = (0, Some (Cut Ledger 0), refl, (Cut Ledger 0 ∷ [], inr (inl refl), refl))
 
 pub returns-clause-unfounded : goal.returns-clause-unfounded
 returns-clause-unfounded c = record {
-  at_the_cut = (0, Some (Cut Ledger 0), refl, (Some filled, refl, ([], inl refl, refl)));
+  at_the_cut = (0, Some (Cut Ledger 0), refl, ([], inl refl, refl));
   at_the_cut_that_happened = cut_failed;
-  at_the_look = (2, None, refl, (Some (made 2 (Cut Ledger 0 ∷ synced ∷ []) filled), refl, refl));
-  at_the_append = (6, Some (Wrote Ledger 1 (0 ∷ 1 ∷ 100 ∷ 0 ∷ [])), refl, (Some (made 6 cut_and_opened filled), refl, ([], inl refl, refl)));
+  at_the_look = (2, None, refl, refl);
+  at_the_append = (6, Some (Wrote Ledger 1 (0 ∷ 1 ∷ 100 ∷ 0 ∷ [])), refl, ([], inl refl, refl));
   no_memory_at_once = inl refl;
   no_memory_behind_the_opening = inr (inr (inr refl));
   damaged_where_nothing_is_told = (refl, (damaged, tt, is_damaged, refl));
-  not_failed_without_a_call = no_call_failed;
+  not_failed_without_a_call = λ h. unmarked _ filled filled refl h;
+  not_failed_where_all_succeeded = λ h. unmarked _ filled _ refl h;
   not_with_one_call_too_few = one_call_too_few;
-  not_without_the_sync_of_the_cut = λ h. let bad = behind_the_cut _ h in absurd cc;
-  not_on_another_area = λ h. let bad = behind_the_cut _ h in absurd cc;
+  not_without_the_sync_of_the_cut = λ h. let bad = after_the_cut _ h in absurd cc;
+  not_on_another_area = λ h. let bad = after_the_cut _ h in absurd cc;
   not_without_memory_behind_the_record = no_memory_behind;
   not_damaged_where_it_is_told = λ at h. let bad = h.0 in absurd cc;
   not_broken = λ new h. h;
@@ -189,7 +184,7 @@ founded : FoundsBy founding
 founded = founded_stops (d ∷ []) (search rules) (Some filled) (Some (made 10 founding filled)) (keeps_told _ keeps_whole) refl
 
 cut_alone : FoundsBy (Cut Ledger 0 ∷ [])
-cut_alone = unfounded_stops (d ∷ []) (search rules) (Some filled) (Some (made 1 (Cut Ledger 0 ∷ []) filled)) keeper.Disk (keeps_told _ keeps_cut) cut_failed
+cut_alone = unfounded_stops (d ∷ []) (search rules) (Some filled) (Some (failed_by 1 (Cut Ledger 0 ∷ []) filled)) keeper.Disk (keeps_told _ keeps_cut) cut_failed
 
 -- what is said at one event, of the events that are there
 at_event : (events : List Event) → FoundsBy events → (n : ℕ) (image : List ℕ) → IsImage (extended start (take n events)) Ledger image → LeavesBehind (take n events) image
@@ -219,18 +214,18 @@ one_byte q tail off = let bytes = off.bytes in absurd cc
 open_gate : Damage (1 ∷ 5 ∷ []) 0
 open_gate = ([], (lit< tt, (5 ∷ [], record { valid = tt; bytes = refl }, one_byte)), refl)
 
-uncut : IsCut Ledger (found_events (d ∷ [])) (Wrote Ledger 3 (120 ∷ []) ∷ []) → ⊥
+uncut : IsCut (found_events (d ∷ [])) (Wrote Ledger 3 (120 ∷ []) ∷ []) → ⊥
 uncut (zero, inl e) = absurd cc
 uncut (suc n, inl e) = absurd cc
-uncut (zero, inr (bytes, change, e)) = change
-uncut (suc n, inr (bytes, change, e)) = absurd cc
+uncut (zero, inr (area, bytes, change, e)) = absurd cc
+uncut (suc n, inr (area, bytes, change, e)) = absurd cc
 
 pub returns-clause-founding : goal.returns-clause-founding
 returns-clause-founding c = record {
   whole = founded;
   only_cut = cut_alone;
-  not_with_another_payload = λ h. let front = (at_event _ h 8 other_image (search rules)).front _ refl in no_front front.0 front.1;
-  not_with_the_gate_unsynced = λ h. let front = (at_event _ h 6 (1 ∷ 5 ∷ []) (search rules)).front _ refl in never_both (1 ∷ 5 ∷ []) _ 0 front.1 open_gate;
+  not_with_another_payload = λ h. let front = (at_event _ h 8 other_image (search rules)).prefix _ refl in no_front front.0 front.1;
+  not_with_the_gate_unsynced = λ h. let front = (at_event _ h 6 (1 ∷ 5 ∷ []) (search rules)).prefix _ refl in never_both (1 ∷ 5 ∷ []) _ 0 front.1 open_gate;
   not_without_the_cut = λ h. uncut (at_event _ h 1 closed (record { no_shorter = lit≤ tt; no_longer = lit≤ tt; kept = λ k lt outside. refl })).among;
   old_until_the_cut = at_event founding founded 0 closed (record { no_shorter = lit≤ tt; no_longer = lit≤ tt; kept = λ k lt outside. refl });
   old_until_its_sync = at_event founding founded 1 closed (record { no_shorter = lit≤ tt; no_longer = lit≤ tt; kept = λ k lt outside. refl });

@@ -7,12 +7,15 @@ use Rattle.satp_base.specs.declared.ledger.Answer.{Answer}
 use Rattle.satp_base.specs.declared.ledger.Answer.TheVariants.{Done}
 use Rattle.satp_base.specs.declared.ledger.Entry.{Entry}
 use Rattle.satp_base.specs.declared.ledger.LedgerKind.{LedgerKind}
-use Rattle.satp_keeper.specs.declared.fault.KeeperFault.TheVariants.{Broken}
+use Rattle.satp_keeper.specs.declared.fault.KeeperFault.TheVariants.{Broken, Disk}
 use Rattle.satp_devices.specs.declared.area_file.AreaFile.{AreaFile}
 use Rattle.satp_devices.specs.declared.folder.Folder.{Folder}
-use Rattle.satp_site.specs.Keeping.{KeptState, told_book}
+use Rattle.satp_site.specs.Directories.{DiskState}
+use Rattle.satp_site.specs.Keeping.{KeptState}
+use Rattle.satp_site.specs.Sites.{HasNoSecond, HasSecond}
+use Rattle.satp_base.specs.Calls.{Told}
 use Rattle.satp_examples.specs.Keepers.{accounts}
-use Rattle.satp_examples.specs.RealSites.{Founds, Locks, Looks, Raises, broken, broken_and_asked, fresh}
+use Rattle.satp_examples.specs.RealSites.{Founds, Locks, Looks, Raises, broken, broken_and_asked, counts, fresh}
 use Rattle.satp_examples.proofs.Books.{no_genesis}
 use Rattle.satp_examples.proofs.real_sites.law_real_sites.Goals as goal
 
@@ -32,27 +35,53 @@ stands = search rules
 whole : (s : KeptState) → Some broken ≡ Some s → s.journal.held.broken ≡ true
 whole s e = ap (λ (x : KeptState). x.journal.held.broken) (sym (held broken s e))
 
-no_book : (s : KeptState) → Some broken ≡ Some s → told_book s ≡ Some s.book → ⊥
-no_book s e is = let no = whole s e in absurd cc
+raised_broken : Raises (counts 2 0) (Ok tt) (counts 2 0) (Some broken) → ⊥
+raised_broken (s, e, (_, inl opened, _)) = let no = whole s e in let is = opened.whole in absurd cc
+raised_broken (s, e, (_, inr (between, refused, opened), _)) = let no = whole s e in let is = opened.whole in absurd cc
 
-raised_broken : Raises (Ok tt) (Some broken) → ⊥
-raised_broken (s, e, (told, inl opened)) = no_book s e opened.book
-raised_broken (s, e, (told, inr (between, refused, opened))) = no_book s e opened.book
+had_second : HasSecond (counts 2 0) (counts 2 0)
+had_second = record { told = refl; faults = refl }
+
+no_second : HasNoSecond (counts 2 0) (counts 3 0)
+no_second = record { told = refl; rose = lit≤ tt; second = refl }
+
+-- what is told of two numbers of calls
+calls_of : (a b : Told) → Some a ≡ Some b → a.calls ≡ b.calls
+calls_of a b e = cc
+
+pub returns-clause-disks : goal.returns-clause-disks
+returns-clause-disks c = record {
+  had = record { told = refl; faults = refl };
+  not_had_twice = λ h. let bad : 6 ≡ 5 = calls_of _ _ h.told in absurd (omega (arith, bad));
+  not_had_uncounted = λ h. let bad : 4 ≡ 5 = calls_of _ _ h.told in absurd (omega (arith, bad));
+  had_and_given_back = record { told = refl; faults = refl; cause = record { rose = λ e. absurd cc; still = λ _. refl } };
+  not_had_and_kept = λ h. let bad : 5 ≡ 6 = calls_of _ _ h.told in absurd (omega (arith, bad));
+  not_given_back_without_a_ledger = refl;
+  none_had = no_second;
+  no_fault_uncounted = λ h. let bad : 3 ≤ 2 = h.rose in absurd (omega (arith, bad));
+  no_fault_of_the_second = λ h. let bad : 1 ≡ 0 = ap (λ (d : DiskState). d.faults) h.second in absurd (omega (arith, bad));
+  a_failed_disk = record { told = refl; faults = refl; cause = record { rose = λ _. lit≤ tt; still = λ no. absurd (no refl) } };
+  no_failed_disk_uncounted = λ h. let bad : 1 ≤ 0 = h.cause.rose refl in absurd (omega (arith, bad));
+  no_want_of_memory_counted_there = λ h. let bad : 1 ≡ 0 = h.cause.still (λ e. absurd cc) in absurd (omega (arith, bad));
+}
 
 pub returns-clause-ledgers : goal.returns-clause-ledgers
 returns-clause-ledgers c = record {
-  founded = (fresh, refl, record { kind = refl; book = refl; payloads = tt; leaves = tt; rests = tt; own_faults = refl; wants = refl });
-  not_founded = λ fault. refl;
-  not_of_another_kind = λ h. let bad = ap (λ (x : KeptState). x.kind) (held _ h.0 h.1) ∙ h.2.kind in absurd cc;
-  not_broken = λ h. let no = whole h.0 h.1 in let is = h.2.book in absurd cc;
-  not_with_a_fault = λ h. let bad : 1 ≡ 0 = ap (λ (x : KeptState). x.own_faults) (held _ h.0 h.1) ∙ h.2.own_faults in absurd (omega (arith, bad));
+  founded = (fresh, refl, (had_second, record { kind = refl; calls = refl; book = refl; whole = refl; payloads = tt; leaves = tt; rests = tt; own_faults = refl; wants = refl }, refl));
+  not_founded_without_a_disk = λ fault. (refl, inl no_second);
+  not_founded_where_its_disk_failed = λ fault. (refl, inr (Disk, record { told = refl; faults = refl; cause = record { rose = λ _. lit≤ tt; still = λ no. absurd (no refl) } }, (0, _, refl, ([], inl refl, refl))));
+  not_of_another_kind = λ h. let bad = ap (λ (x : KeptState). x.kind) (held _ h.0 h.1) ∙ h.2.1.kind in absurd cc;
+  not_broken = λ h. let no = whole h.0 h.1 in let is = h.2.1.whole in absurd cc;
+  not_with_a_fault = λ h. let bad : 1 ≡ 0 = ap (λ (x : KeptState). x.own_faults) (held _ h.0 h.1) ∙ h.2.1.own_faults in absurd (omega (arith, bad));
+  not_with_a_fault_of_its_disk = λ h. let bad : 1 ≡ 0 = ap (λ (x : KeptState). x.disk_faults) (held _ h.0 h.1) ∙ h.2.2 in absurd (omega (arith, bad));
   not_founded_and_not_held = λ h. let bad = h.1 in absurd cc;
-  not_held_and_not_founded = λ fault h. absurd cc;
-  raised = (fresh, refl, (None, inl (record { kind = refl; opened = (image, (tt, stands, refl, refl), refl); leaves = (nothing, [], record { valid = no_genesis; runs = refl; list = refl }); book = refl; rests = tt; own_faults = refl; wants = refl })));
-  not_raised = λ fault. refl;
+  not_held_and_not_founded = λ fault h. let bad = h.0 in absurd cc;
+  raised = (fresh, refl, (had_second, inl (record { kind = refl; opened = (image, (tt, stands, refl, refl), refl); leaves = (nothing, [], record { valid = no_genesis; runs = refl; list = refl }); whole = refl; rests = tt; own_faults = refl; wants = refl }), refl));
+  not_raised_without_a_disk = λ fault. (refl, inl no_second);
   not_raised_and_not_held = λ h. let bad = h.1 in absurd cc;
-  not_held_and_not_raised = λ fault h. absurd cc;
+  not_held_and_not_raised = λ fault h. let bad = h.0 in absurd cc;
   not_raised_broken = raised_broken;
+  not_raised_over_a_fault = λ h. let bad : 1 ≡ 0 = ap (λ (x : KeptState). x.disk_faults) (held _ h.0 h.1) ∙ h.2.2 in absurd (omega (arith, bad));
 }
 
 -- ---- operations and looks
@@ -60,7 +89,7 @@ returns-clause-ledgers c = record {
 pub returns-clause-calls : goal.returns-clause-calls
 returns-clause-calls c = record {
   no_lock_without_one = (refl, refl);
-  no_lock_where_it_is_broken = (broken_and_asked, refl, record { inner = Err Broken; answer = refl; kind = refl; keeps = (refl, (refl, refl, refl)); own_faults = refl; wants = refl }, ([], inr refl, tt));
+  no_lock_where_it_is_broken = (broken_and_asked, refl, record { inner = Err Broken; answer = refl; kind = refl; keeps = (refl, (refl, refl, refl)); own_faults = refl; wants = refl }, ([], inr refl, inl (refl, refl)));
   not_done_without_one = λ h. let bad = h.0 in absurd cc;
   not_dropped_by_a_lock = λ result h. let bad = h.1 in absurd cc;
   not_made_by_a_lock = λ result h. let bad = h.1 in absurd cc;

@@ -7,7 +7,9 @@ use Rattle.satp_base.specs.Canonical.{canonical, kind_of}
 use Rattle.satp_base.specs.declared.message.Message.{Message}
 use Rattle.satp_app.specs.Check.{line}
 use Rattle.satp_app.specs.Commands.{CommandRule, EndRule, Reports}
-use Rattle.satp_app.specs.Init.{InitEnds, Order}
+use Rattle.satp_gateway.specs.declared.fault.SetUpFault.{SetUpFault}
+use Rattle.satp_gateway.specs.declared.fault.SetUpFault.TheVariants.{Already, Damaged, Site, Memory as NoMemory}
+use Rattle.satp_app.specs.Init.{InitEnds, Order, set_up_outcome}
 use Rattle.satp_app.specs.Init.InitEnds.{is_set_up, not_read, not_ready, not_set_up}
 use Rattle.satp_app.specs.Outcomes.{status_of}
 use Rattle.satp_app.specs.Outside.{OutsideState, SinkState, SiteState}
@@ -38,9 +40,15 @@ other_lines lines text m said same =
     some_lines : {a b : List ℕ} → Some a ≡ Some b → a ≡ b
     some_lines e = cc
 
+no_words_told : (fault : SetUpFault) → WordsRefused ≡ set_up_outcome fault → ⊥
+no_words_told Already e = absurd cc
+no_words_told (Damaged at) e = absurd cc
+no_words_told Site e = absurd cc
+no_words_told NoMemory e = absurd cc
+
 init_refuses_no_words : (o : Order) (a : OutsideState) → InitEnds o start a WordsRefused → ⊥
 init_refuses_no_words o a (not_ready same (inl (fails, e))) = absurd cc
-init_refuses_no_words o a (not_ready same (inr (within, enters, bad))) = bad
+init_refuses_no_words o a (not_ready same (inr (within, fault, enters, not, e))) = no_words_told fault e
 init_refuses_no_words o a (not_read ready bad printed) = bad
 init_refuses_no_words o a (not_set_up bad printed) = bad
 init_refuses_no_words o a (is_set_up bad) = bad
@@ -54,7 +62,7 @@ refuses_no_words (Init dir name peer at key ledger) a h = init_refuses_no_words 
 answers_beta : Does (Answer beta) receipt_line untouched
 answers_beta = (
   (
-    (refl, refl),
+    (refl, (refl, refl)),
     (
       receipt_line,
       record {
@@ -63,7 +71,7 @@ answers_beta = (
         short = lit≤ tt;
         said = (proposal, quarter, (the_proposal, refl), refl, record { due = refl; receipt = receipt; canonical = refl; newline = refl });
       },
-      (refl, refl),
+      (refl, refl, refl),
     ),
   ),
   refl,
@@ -72,10 +80,11 @@ answers_beta = (
 pub returns-clause-commands : goal.returns-clause-commands
 returns-clause-commands c = record {
   answers = answers_beta;
-  checks = (((refl, refl), (checked_line, record { bytes = proposal_text; is_input = refl; short = lit≤ tt; said = (proposal, the_proposal, refl) }, (refl, refl))), refl);
-  not_answered_by_a_check = λ h. let says = h.0.1 in other_lines says.0 _ says.1.said.0 says.1.said.2 says.2.1;
-  not_with_a_call_on_the_site = λ h. let bad : Some (codes "d" ∷ []) ≡ Some [] = ap (λ (s : SiteState). option_map (λ (t : Told). t.dirs) s.told) h.1 in absurd cc;
+  checks = (((refl, (refl, refl)), (checked_line, record { bytes = proposal_text; is_input = refl; short = lit≤ tt; said = (proposal, the_proposal, refl) }, (refl, refl, refl))), refl);
+  not_answered_by_a_check = λ h. let says = h.0.1 in other_lines says.0 _ says.1.said.0 says.1.said.2 says.2.2;
+  not_with_a_call_on_the_site = λ h. let bad : Some 1 ≡ Some 0 = ap (λ (s : SiteState). option_map (λ (t : Told). length t.dirs) s.told) h.1 in absurd cc;
   not_with_a_fault_of_the_site = λ h. let bad : 1 ≡ 0 = ap (λ (s : SiteState). s.faults) h.1 in absurd (omega (arith, bad));
+  not_with_an_input_that_goes_on = λ h. let bad = h.0.0.1.1 in absurd cc;
   no_words_are_refused = refuses_no_words;
 }
 
@@ -145,14 +154,14 @@ refused_and_read said (outcome, end, e, r) =
     absurd cc
 
 silent : Reports WordsRefused (out 0 []) (out 0 []) → ⊥
-silent (inl whole) = let bad : Some [] ≡ Some refused_line = whole.1 in absurd cc
+silent (inl whole) = let bad : Some [] ≡ Some refused_line = whole.2 in absurd cc
 silent (inr part) = let bad : 1 ≤ 0 = part.0 in omega (arith, bad)
 
 in_silence : Runs [] start (out 0 []) 2 → ⊥
 in_silence (outcome, end, e, r) = silent (subst (λ o. Reports o (out 0 []) (out 0 [])) (of_2 outcome e) r)
 
 says_nothing : Reports Done (out 0 []) (out 0 refused_line) → ⊥
-says_nothing (inl whole) = let bad : Some refused_line ≡ Some [] = whole.1 in absurd cc
+says_nothing (inl whole) = let bad : Some refused_line ≡ Some [] = whole.2 in absurd cc
 says_nothing (inr part) = let bad : 1 ≤ 0 = part.0 in omega (arith, bad)
 
 done_with_a_line : Runs answer_beta (printed receipt_line untouched) (out 0 refused_line) 0 → ⊥
@@ -160,9 +169,9 @@ done_with_a_line (outcome, end, e, r) = says_nothing (subst (λ o. Reports o (ou
 
 pub returns-clause-runs : goal.returns-clause-runs
 returns-clause-runs c = record {
-  done = (Done, (Answer beta, refl, answers_beta), refl, inl (refl, refl));
-  refused = (WordsRefused, (none_listed, refl), refl, inl (refl, refl));
-  refused_with_a_part_of_its_line = (WordsRefused, (none_listed, refl), refl, inr (lit≤ tt, (4, lit< tt, refl)));
+  done = (Done, (Answer beta, refl, answers_beta), refl, inl (refl, refl, refl));
+  refused = (WordsRefused, (none_listed, refl), refl, inl (refl, refl, refl));
+  refused_with_a_part_of_its_line = (WordsRefused, (none_listed, refl), refl, inr (lit≤ tt, refl, (4, lit< tt, refl)));
   not_done_without_words = done_without_words;
   not_refused_where_listed = refused_where_listed;
   not_refused_and_read = refused_and_read;

@@ -1,39 +1,63 @@
-use Rattle.std.proofs.Common.{◌≡◌, ◌≢◌, ℕ, Bool, true, false, List, [], ◌∷◌, ◌++◌, Some, None, length, take, Ok, Err, refl, sym, ap, ◌∙◌, subst, inl, inr, arith, lit≤, rules, length-append}
-use Rattle.std.specs.List.{flat_map, list_any}
+use Rattle.std.proofs.Common.{◌≡◌, ◌≢◌, ◌≤◌, ℕ, Bool, true, false, List, [], ◌∷◌, ◌++◌, Some, None, take, Ok, Err, refl, sym, ap, ◌∙◌, subst, inl, inr, arith, lit≤, rules}
+use Rattle.std.specs.List.{flat_map}
+use Rattle.std.proofs.lemmas.List.{append_cancel_left}
 use Rattle.std.specs.Prelude.{slice_index}
 use Rattle.satp_base.specs.Acts.{founded}
-use Rattle.satp_base.specs.Calls.{Told}
-use Rattle.satp_base.specs.Format.{IsMendable, Stands, StandsOpened, records}
-use Rattle.satp_base.specs.Laws.{IsInMend}
+use Rattle.satp_base.specs.Calls.{Told, made}
+use Rattle.satp_base.specs.Format.{IsPayload, Stands}
 use Rattle.satp_base.specs.Segments.{append_events}
 use Rattle.satp_base.specs.Trail.{IsImage, KeepsModel, Trail, extended}
 use Rattle.satp_base.specs.declared.area.Area.TheVariants.{JournalA}
 use Rattle.satp_base.specs.declared.area.Event.{Event}
-use Rattle.satp_base.specs.declared.area.Event.TheVariants.{Acted, Cut, Founded, Left, Synced, Wrote}
+use Rattle.satp_base.specs.declared.area.Event.TheVariants.{Founded}
+use Rattle.satp_base.proofs.Closing.{either_stands}
 use Rattle.satp_base.proofs.Readings.{one_list}
-use Rattle.satp_gateway.specs.SettingUp.{SetUpAnswers, UnlessFailed, tells}
-use Rattle.satp_gateway.specs.SetUpStops.{HasFounded, IsInSetUp}
+use Rattle.satp_journal.specs.Opening.{Finds, Rests}
+use Rattle.satp_journal.proofs.OpenLemmas.{mended_stops, open_rests}
+use Rattle.satp_gateway.specs.SettingUp.{IsVacant, SetUpAnswers, Tells, UnlessFailed, VacantAnswers, tells}
+use Rattle.satp_gateway.specs.SetUpStops.{IsInFounding, IsInSetUp, SetUpStops, VacantRests, VacantStops}
 use Rattle.satp_gateway.specs.declared.fault.SetUpFault.TheVariants.{Already}
 use Rattle.satp_gateway.proofs.Deciding.{decided}
-use Rattle.satp_gateway.proofs.Stopping.{rests, stops}
-use Rattle.satp_examples.specs.Appending.{closed, uncalled, opened as journal_of}
+use Rattle.satp_gateway.proofs.Growing.{none_founded}
+use Rattle.satp_gateway.proofs.Stopping.{opened_stops, unopened_stops, vacant_rests, vacant_stops}
+use Rattle.satp_examples.specs.Appending.{closed, held, uncalled, opened as journal_of}
 use Rattle.satp_examples.specs.Journals.{abc, abc_then, d}
 use Rattle.satp_examples.specs.Ledgers.{with_gold}
 use Rattle.satp_examples.specs.Segments.{synced}
 use Rattle.satp_examples.specs.SetUps.{empty, opened, plan, set_up, there}
 use Rattle.satp_examples.specs.SetUpStops.{SetsUpBy, opens, stores}
-use Rattle.satp_examples.proofs.Images.{both, is_whole}
-use Rattle.satp_examples.proofs.Mends.{closed_opens_not}
+use Rattle.satp_examples.proofs.Images.{is_whole}
 use Rattle.satp_examples.proofs.set_up_stops.law_set_up_stops.Goals as goal
 
-done : SetUpAnswers plan (tells (Some empty) None) (tells (Some set_up) (Some (founded with_gold))) (Ok tt)
-done = (Some opened, (journal_of [], refl, ([], (refl, search rules, refl, refl), refl)), (refl, (refl, refl)))
+-- what is told before the set-up, after the opening and after all
+old : Tells
+old = tells (Some empty) None
+
+vacancy : Tells
+vacancy = tells (Some opened) None
+
+whole : Tells
+whole = tells (Some set_up) (Some (founded with_gold))
+
+d_fits : IsPayload d
+d_fits = search rules
+
+finds : Finds JournalA (Some empty) (held []) []
+finds = (refl, search rules, refl, refl)
+
+is_vacant : IsVacant old vacancy
+unfolding old vacancy
+is_vacant = ((journal_of [], refl, ([], finds, refl)), refl)
+
+established : VacantAnswers plan vacancy whole (Ok tt)
+unfolding vacancy whole
+established = (refl, (refl, refl))
 
 some : abc ∷ [] ≢ []
 some e = absurd cc
 
 already : SetUpAnswers plan (tells (Some (uncalled closed)) None) (tells (Some there) None) (Err Already)
-already = ((abc ∷ [], some, (journal_of (abc ∷ []), refl, (closed, (refl, is_whole, refl, refl), refl))), refl)
+already = inl ((abc ∷ [], some, (journal_of (abc ∷ []), refl, (closed, (refl, is_whole, refl, refl), refl))), refl)
 
 same_told : (t u : Told) → Some t ≡ Some u → t ≡ u
 same_told t u e = cc
@@ -44,47 +68,36 @@ keeps_set_up t e = subst (λ (x : Told). KeepsModel x.trail) (same_told set_up t
 keeps_there : (t : Told) → Some there ≡ Some t → KeepsModel t.trail
 keeps_there t e = subst (λ (x : Told). KeepsModel x.trail) (same_told there t e) (λ area. (tt, tt))
 
+keeps_opened : (t : Told) → Some opened ≡ Some t → KeepsModel t.trail
+keeps_opened t e = subst (λ (x : Told). KeepsModel x.trail) (same_told opened t e) (λ area. (tt, (tt, (tt, tt))))
+
+journal_rests : Rests (Some opened) (held [])
+journal_rests = open_rests JournalA (held []) [] (Some empty) (Some opened) finds refl
+
+vacant_stopped : VacantStops plan (Some opened) (Some set_up)
+unfolding vacancy whole
+vacant_stopped = vacant_stops plan d_fits vacancy whole (Ok tt) keeps_set_up established
+
+vacant_rested : VacantRests plan (Some opened) (Some set_up)
+unfolding vacancy whole
+vacant_rested = vacant_rests plan d_fits (Some opened) whole keeps_set_up established
+
+stopped : SetUpStops plan (Some empty) (Some set_up)
+unfolding old vacancy whole
+stopped = opened_stops plan d_fits old vacancy whole (Ok tt) keeps_set_up is_vacant (mended_stops JournalA (held []) [] (Some empty) (Some opened) keeps_opened finds refl) journal_rests established
+
+over_there : SetUpStops plan (Some (uncalled closed)) (Some there)
+over_there =
+    unopened_stops plan Already (tells (Some (uncalled closed)) None) (tells (Some there) None) ((abc ∷ [], some, (journal_of (abc ∷ []), refl, (closed, (refl, is_whole, refl, refl), refl))), refl)
+    (mended_stops JournalA (held (abc ∷ [])) closed (Some (uncalled closed)) (Some there) keeps_there (refl, is_whole, refl, refl) refl)
+
 -- what is said at one event, of the events that are there
 at_event : (old : Told) (events : List Event) → old.trail.events ≡ [] → SetsUpBy old events → (n : ℕ) (image : List ℕ) → IsImage (extended old.trail (take n events)) JournalA image → IsInSetUp plan old.trail (take n events) image
 at_event old events none (all, is, at) n image left =
     let same : events ≡ all = subst (λ es. es ++ events ≡ es ++ all) none (ap (λ (t : Trail). t.events) is) in
     subst (λ es. IsInSetUp plan old.trail (take n es) image) (sym same) (at n image (subst (λ es. IsImage (extended old.trail (take n es)) JournalA image) same left))
 
--- ---- no founding is there
-
-is_founding : Event → Bool
-is_founding Founded = true
-is_founding (Wrote area at bytes) = false
-is_founding (Cut area n) = false
-is_founding (Synced area) = false
-is_founding (Left area bytes) = false
-is_founding (Acted op session terms) = false
-
-has_founding : (front behind : List Event) → list_any is_founding (front ++ Founded ∷ behind) ≡ true
-unfolding is_founding
-has_founding [] behind = refl
-has_founding (Founded ∷ front) behind = refl
-has_founding (Wrote area at bytes ∷ front) behind = has_founding front behind
-has_founding (Cut area n ∷ front) behind = has_founding front behind
-has_founding (Synced area ∷ front) behind = has_founding front behind
-has_founding (Left area bytes ∷ front) behind = has_founding front behind
-has_founding (Acted op session terms ∷ front) behind = has_founding front behind
-
-no_founding : (events : List Event) → list_any is_founding events ≡ false → HasFounded events → ⊥
-no_founding events none (front, behind, is) = let there : list_any is_founding events ≡ true = ap (list_any is_founding) is ∙ has_founding front behind in absurd cc
-
 -- ---- what an empty area may become
-
-nothing_opens : (longer : List (List ℕ)) → StandsOpened [] longer → ⊥
-nothing_opens longer (list, gate, behind, shuts, ends, stands) =
-    let none : 0 ≡ length (records list ++ gate ∷ behind) = ap length ends.bytes in let more = length-append (records list) (gate ∷ behind) in absurd (omega (arith, none, more))
-
-stands_for : (image : List ℕ) (list : List (List ℕ)) → Stands image list → IsInMend [] [] image → list ≡ []
-stands_for image list stands (inl s) = one_list image list [] stands s
-stands_for image list stands (inr (longer, opened, s)) = absurd (nothing_opens longer opened)
-
-d_stands : Stands (1 ∷ 0 ∷ 1 ∷ 100 ∷ 0 ∷ []) (d ∷ [])
-d_stands = search rules
 
 other_stands : Stands (1 ∷ 0 ∷ 1 ∷ 101 ∷ 0 ∷ []) ((101 ∷ []) ∷ [])
 other_stands = search rules
@@ -92,34 +105,33 @@ other_stands = search rules
 abbrev first_byte : List (List ℕ) → ℕ
 first_byte qs = slice_index (flat_map (λ q. q) qs) 0
 
-nothing_mends : IsMendable []
-nothing_mends = inl (lit≤ tt)
-
 too_early : ¬ SetsUpBy empty (opens ++ stores ++ Founded ∷ [])
-unfolding is_founding
-too_early h = elim ((at_event empty _ refl h 7 (1 ∷ 0 ∷ 1 ∷ 100 ∷ 0 ∷ []) (search rules)).behind _ [] refl (search rules) nothing_mends) [
-  | inl mend ↦ let same = stands_for _ (d ∷ []) d_stands mend in absurd cc
-  | inr stored ↦ no_founding _ refl stored.0
-]
+too_early h =
+    let opening = (at_event empty _ refl h 7 (1 ∷ 0 ∷ 1 ∷ 100 ∷ 0 ∷ []) (search rules)).before (none_founded (opens ++ stores) (tt, (tt, (tt, (tt, (tt, (tt, (tt, tt)))))))) in
+    let bad : 5 ≤ 1 = opening.short _ refl (lit≤ tt) in
+    absurd (omega (arith, bad))
+
+-- the record stands before the founding
+vacant_too_early : ¬ VacantStops plan (Some opened) (Some (made 5 (stores ++ Founded ∷ []) opened))
+vacant_too_early h =
+    let s = h journal_rests in
+    let same : stores ++ Founded ∷ [] ≡ s.0 = append_cancel_left opened.trail.events (stores ++ Founded ∷ []) s.0 (ap (λ (t : Trail). t.events) s.1) in
+    let at : (n : ℕ) (image : List ℕ) → IsImage (extended opened.trail (take n (stores ++ Founded ∷ []))) JournalA image → IsInFounding plan (take n (stores ++ Founded ∷ [])) image =
+        λ n image left. subst (λ es. IsInFounding plan (take n es) image) (sym same) (s.2 n image (subst (λ es. IsImage (extended opened.trail (take n es)) JournalA image) same left)) in
+    let rest = (at 4 (1 ∷ 0 ∷ 1 ∷ 100 ∷ 0 ∷ []) (search rules)).before (none_founded stores (tt, (tt, (tt, (tt, tt))))) in
+    let bytes = rest.1.bytes in
+    absurd cc
 
 other_record : ¬ SetsUpBy empty (opens ++ Founded ∷ append_events JournalA 0 (101 ∷ []))
-other_record h = elim ((at_event empty _ refl h 8 (1 ∷ 0 ∷ 1 ∷ 101 ∷ 0 ∷ []) (search rules)).behind _ [] refl (search rules) nothing_mends) [
-  | inl mend ↦ let same = stands_for _ ((101 ∷ []) ∷ []) other_stands mend in absurd cc
-  | inr stored ↦ let same = one_list _ (d ∷ []) ((101 ∷ []) ∷ []) stored.2 other_stands in let bad : 100 ≡ 101 = ap first_byte same in absurd (omega (arith, bad))
+other_record h = elim (either_stands [] d _ d_fits ((at_event empty _ refl h 8 (1 ∷ 0 ∷ 1 ∷ 101 ∷ 0 ∷ []) (search rules)).after (opens, append_events JournalA 0 (101 ∷ []), refl)).1) [
+  | inl none ↦ let same = one_list _ [] ((101 ∷ []) ∷ []) none other_stands in absurd cc
+  | inr stored ↦ let same = one_list _ (d ∷ []) ((101 ∷ []) ∷ []) stored other_stands in let bad : 100 ≡ 101 = ap first_byte same in absurd (omega (arith, bad))
 ]
-
-closed_mends : IsMendable closed
-closed_mends = inr (inl (abc ∷ [], ([], record { valid = search rules; bytes = refl })))
-
-not_mended : IsInMend closed (abc ∷ []) (abc_then (1 ∷ 0 ∷ 1 ∷ 100 ∷ 0 ∷ [])) → ⊥
-not_mended (inl s) = let same = one_list _ (abc ∷ []) (abc ∷ d ∷ []) s both in absurd cc
-not_mended (inr (longer, opened, s)) = closed_opens_not longer opened
 
 behind_record : ¬ SetsUpBy (uncalled closed) (synced ∷ Founded ∷ append_events JournalA 6 d)
-behind_record h = elim ((at_event (uncalled closed) _ refl h 6 (abc_then (1 ∷ 0 ∷ 1 ∷ 100 ∷ 0 ∷ [])) (search rules)).behind _ (abc ∷ []) refl is_whole closed_mends) [
-  | inl mend ↦ not_mended mend
-  | inr stored ↦ some stored.1
-]
+behind_record h =
+    let read = ((at_event (uncalled closed) _ refl h 6 (abc_then (1 ∷ 0 ∷ 1 ∷ 100 ∷ 0 ∷ [])) (search rules)).after (synced ∷ [], append_events JournalA 6 d, refl)).0 in
+    let same = one_list closed [] (abc ∷ []) read is_whole in absurd cc
 
 -- ---- all of it
 
@@ -130,12 +142,16 @@ not_done (inr (inr e)) = absurd cc
 
 pub returns : goal.returns
 returns c = record {
-  whole = stops plan (search rules) (Some empty) (Some set_up) None (Some (founded with_gold)) (Ok tt) keeps_set_up done;
-  over_a_record = stops plan (search rules) (Some (uncalled closed)) (Some there) None None (Err Already) keeps_there already;
+  whole = stopped;
+  over_a_record = over_there;
   not_stored_before_the_founding = too_early;
   not_another_record = other_record;
   not_behind_another_record = behind_record;
-  rests = rests plan (search rules) (Some empty) (Some set_up) None (Some (founded with_gold)) (Ok tt) keeps_set_up done;
+  over_a_vacancy = vacant_stopped;
+  not_stored_over_a_vacancy_before_the_founding = vacant_too_early;
+  rests_over_a_vacancy = vacant_rested;
+  not_at_rest_unfounded = λ h. let bytes = (h journal_rests (0 ∷ []) (search rules)).1.bytes in absurd cc;
+  rests = vacant_rested journal_rests;
   not_without_the_record = λ h. let bytes = (h (0 ∷ []) (search rules)).1.bytes in absurd cc;
   not_with_a_record_more = λ h. let bytes = (h (1 ∷ 0 ∷ 1 ∷ 100 ∷ 1 ∷ 0 ∷ 3 ∷ 97 ∷ 98 ∷ 99 ∷ 0 ∷ []) (search rules)).1.bytes in absurd cc;
   decided = decided plan (tells (Some (uncalled closed)) None) (tells (Some there) None) (Err Already) already;

@@ -7,7 +7,7 @@ use Rattle.satp_base.specs.Calls.{Ask, FailsAt, Told, ask_failed, risen}
 use Rattle.satp_base.specs.Format.{IsAtRest, IsPayload, Stands}
 use Rattle.satp_base.specs.Laws.{RestsAt}
 use Rattle.satp_base.specs.LedgerRule.{Operation, entry_of, moved, operation, terms_of}
-use Rattle.satp_stops.specs.Stops.{FailsIn, StandsAt, Step, after_steps}
+use Rattle.satp_stops.specs.Stops.{FailsIn, RestsIn, StandsAt, Step, after_steps}
 use Rattle.satp_stops.specs.Stops.Step.{Operates, Stores}
 use Rattle.satp_base.specs.Trail.{IsImage, extended}
 use Rattle.satp_base.specs.declared.area.Area.TheVariants.{JournalA}
@@ -24,7 +24,7 @@ use Rattle.satp_examples.specs.Journals.{abc, d}
 use Rattle.satp_examples.specs.Ledgers.{new_book}
 use Rattle.satp_examples.specs.Samples.{alpha_1, quarter}
 use Rattle.satp_examples.specs.Segments.{synced}
-use Rattle.satp_examples.specs.SitePoints.{FailsAndTells, StandsSomewhere, lock_call, lock_event, locks, steps}
+use Rattle.satp_examples.specs.SitePoints.{FailsAndTells, RestsSomewhere, StandsSomewhere, lock_call, lock_event, locks, steps}
 use Rattle.satp_examples.specs.Stops.{kept}
 use Rattle.satp_examples.proofs.Books.{absent, burn_is, lock_is, moved_entry}
 use Rattle.satp_examples.proofs.Images.{at_start, both, is_whole, within}
@@ -107,6 +107,31 @@ pub returns-clause-some : goal.returns-clause-some
 returns-clause-some c = record {
   at_the_second = (Stores d ∷ [], locks ∷ [], refl, record { ledger = refl; images = λ image is. inl (last_image image is) });
   not_locked_before_the_payload_is_stored = locked_first;
+}
+
+-- the same at rest
+abbrev Rests : List Step → List Step → Type 0
+Rests done rest = RestsIn (extended at_rest.trail (lock_event ∷ [])) (after_steps kept done) rest
+
+rested_nothing : Rests steps [] → ⊥
+rested_nothing s = elim (s.images closed (search rules)) [
+  | inl list ↦ let same = one_list closed (abc ∷ []) (abc ∷ d ∷ []) is_whole (rest_stands (abc ∷ d ∷ []) closed list) in absurd cc
+  | inr next ↦ next
+]
+
+rested_first : ¬ RestsSomewhere (lock_event ∷ [])
+rested_first ([], rest, e, s) = not_locked (sym s.ledger)
+rested_first (m ∷ [], rest, e, s) = let is : m ≡ Stores d = cc in not_locked (sym (subst (λ (x : Step). Rests (x ∷ []) rest) is s).ledger)
+rested_first (m ∷ n ∷ [], rest, e, s) =
+    let is : m ≡ Stores d = cc in let then : n ≡ locks = cc in let last : rest ≡ [] = cc in
+    rested_nothing (subst (Rests steps) last (subst (λ x. Rests (Stores d ∷ x ∷ []) rest) then (subst (λ x. Rests (x ∷ n ∷ []) rest) is s)))
+rested_first (m ∷ n ∷ o ∷ ms, rest, e, s) = absurd cc
+
+pub returns-clause-some_at_rest : goal.returns-clause-some_at_rest
+returns-clause-some_at_rest c = record {
+  in_the_write_of_the_gate = ([], steps, refl, record { ledger = refl; images = λ image is. inr (within 3 image is) });
+  at_the_second = (Stores d ∷ [], locks ∷ [], refl, record { ledger = refl; images = λ image is. inl (behind_append image is) });
+  not_locked_before_the_payload_is_stored = rested_first;
 }
 
 -- ---- failures

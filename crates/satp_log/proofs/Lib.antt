@@ -1,0 +1,4 @@
+pub mod HearLemmas
+pub mod Comings
+pub mod Folds
+pub mod JournalLemmas

@@ -1,0 +1,4 @@
+pub mod Hearing
+pub mod Folding
+pub mod Journals
+pub mod Logged

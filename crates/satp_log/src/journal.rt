@@ -1,0 +1,215 @@
+ghost use Rattle.std.specs.Prelude.{◌≡◌, ◌≢◌, ℕ, List, Some, None, slice_get};
+ghost use Rattle.std.specs.Option.{option_copied};
+ghost use Rattle.satp_sides.specs.Logs.{IsLog};
+ghost use Rattle.satp_sides.specs.Points.{Stored as StoredOf, view_in};
+ghost use Rattle.satp_sides.specs.Calls.{text_of};
+ghost use Rattle.satp_chain.specs.Chained.{texts_in};
+ghost use Rattle.satp_records.specs.declared.stored.Setup.{Setup};
+ghost use Rattle.satp_log.specs.Journals.{IsJournal, party_of};
+ghost use Rattle.satp_log.specs.Logged.{AddsRecord, AddsTo, BeginsLog, IsPlaceOf, LogHolds, counts_with, sessions_in, text_in};
+
+use crate::fault::Misfit;
+use crate::held::{Held, place_of};
+use crate::state::SessionState;
+use satp_base::{Rec, Role, SessionId, View};
+use satp_chain::Chain;
+use satp_jws::Key;
+use satp_records::{RecordFault, Setup, Stored, decode};
+use std::alloc::Global;
+use std::marker::Model;
+
+/// The most sessions that a gateway begins in each role.
+const MOST_SESSIONS: u32 = 2048;
+
+/// What the records of a gateway's journal say: who the gateway is, and its sessions in the order of their first records.
+#[derive(Drop)]
+pub struct Log {
+    setup: Setup,
+    key: Key,
+    entries: Vec<Held>,
+    started: u32,
+    accepted: u32,
+}
+
+impl Model for Log {
+    ghost use Rattle.std.specs.Prelude.{◌≡◌};
+    ghost use Rattle.satp_log.specs.Logged.{LogState};
+
+    ghost Value = { LogState };
+
+    ghost view = { λ log. record { setup = log.setup; entries = log.entries.items; started = log.started; accepted = log.accepted } };
+
+    ghost invariant = { λ log. log.key ≡ log.setup.key };
+}
+
+impl Log {
+    /// The log of a journal's first record, which is a `Setup`.
+    ///
+    /// `Refused` comes exactly where no gateway's journal begins so.
+    pub fn begin(alloc: Global, payload: &[u8]) -> Result<Log, Misfit>
+        ensures { BeginsLog payload.now result }
+    {
+        let setup = match decode(alloc, payload) {
+            Ok(Stored::Setup(setup)) => setup,
+            Ok(_) => return Err(Misfit::Refused),
+            Err(fault) => return Err(misfit_of(fault)),
+        };
+        match Key::new(setup.key.bytes()) {
+            Ok(key) => Ok(Log {
+                setup,
+                key,
+                entries: Vec::new(alloc),
+                started: 0,
+                accepted: 0,
+            }),
+            Err(_) => unreachable!(),
+        }
+    }
+
+    /// One record more.
+    ///
+    /// `Refused` comes exactly where the payloads with this one are no gateway's journal. It leaves the log as it was, and so does want of memory.
+    pub fn add(&mut self, alloc: Global, payload: &[u8]) -> Result<(), Misfit>
+        ensures { (payloads : List (List ℕ)) (setup : Setup) (xs : List StoredOf) → IsJournal payloads setup xs → LogHolds self.old setup xs → AddsTo payloads setup xs payload.now self.old self.new result }
+    {
+        match decode(alloc, payload) {
+            Ok(Stored::Session { session, rec, text }) => {
+                self.add_record(alloc, session, &rec, text.bytes())
+            }
+            Ok(_) => Err(Misfit::Refused),
+            Err(fault) => Err(misfit_of(fault)),
+        }
+    }
+
+    fn add_record(
+        &mut self,
+        alloc: Global,
+        session: SessionId,
+        rec: &Rec,
+        text: &[u8],
+    ) -> Result<(), Misfit>
+        ensures { (setup : Setup) (xs : List StoredOf) → IsLog (party_of setup) xs → LogHolds self.old setup xs → AddsRecord setup xs session rec.now text.now self.old self.new result }
+    {
+        match place_of(self.entries.as_slice(), session) {
+            Some(index) => match self.entries.get_mut(index) {
+                Some(held) => held.state.add(alloc, &self.key, rec, text),
+                None => unreachable!(),
+            },
+            None => self.add_session(alloc, session, rec, text),
+        }
+    }
+
+    /// The first record of a session that no record names.
+    fn add_session(
+        &mut self,
+        alloc: Global,
+        session: SessionId,
+        rec: &Rec,
+        text: &[u8],
+    ) -> Result<(), Misfit>
+        requires { IsPlaceOf self.old.entries session None }
+        ensures { (setup : Setup) (xs : List StoredOf) → IsLog (party_of setup) xs → LogHolds self.old setup xs → AddsRecord setup xs session rec.now text.now self.old self.new result }
+    {
+        let Some((started, accepted)) = counts_with(rec, self.started, self.accepted) else {
+            return Err(Misfit::Refused);
+        };
+        let name = self.setup.name;
+        let peer = self.setup.peer;
+        match SessionState::begin(alloc, name, peer, &self.key, session, rec, text) {
+            Ok(state) => match self.entries.push(Held { session, state }) {
+                Ok(()) => {
+                    self.started = started;
+                    self.accepted = accepted;
+                    Ok(())
+                }
+                Err(_) => Err(Misfit::Memory),
+            },
+            Err(misfit) => Err(misfit),
+        }
+    }
+
+    /// What the gateway was set up with.
+    pub fn setup(&self) -> &Setup
+        ensures { result.now ≡ self.now.setup }
+    {
+        &self.setup
+    }
+
+    /// The session that began as the one of this index, from 0; none exactly from the number of sessions on.
+    pub fn session(&self, index: u32) -> Option<SessionId>
+        ensures { (setup : Setup) (xs : List StoredOf) → LogHolds self.now setup xs → result ≡ slice_get (sessions_in xs) index }
+    {
+        match self.entries.get(index as usize) {
+            Some(held) => Some(held.session),
+            None => None,
+        }
+    }
+
+    /// What the records say of a session; none exactly where no record names it.
+    pub fn view(&self, session: SessionId) -> Option<View>
+        ensures { (setup : Setup) (xs : List StoredOf) → LogHolds self.now setup xs → result ≡ view_in session xs }
+    {
+        match place_of(self.entries.as_slice(), session) {
+            Some(index) => match self.entries.get(index) {
+                Some(held) => Some(*held.state.view()),
+                None => unreachable!(),
+            },
+            None => None,
+        }
+    }
+
+    /// The text at a place of a session's chain, from 1; none exactly where the records hold no text of that place.
+    pub fn text(&self, session: SessionId, place: u8) -> Option<&[u8]>
+        ensures { (setup : Setup) (xs : List StoredOf) → LogHolds self.now setup xs → option_copied result ≡ text_in session xs place }
+    {
+        match place_of(self.entries.as_slice(), session) {
+            Some(index) => match self.entries.get(index) {
+                Some(held) => text_at(held.state.chain(), place),
+                None => unreachable!(),
+            },
+            None => None,
+        }
+    }
+}
+
+fn text_at(chain: &Chain, place: u8) -> Option<&[u8]>
+    ensures { option_copied result ≡ text_of (texts_in chain.now) place }
+{
+    match chain.entry(place) {
+        Some(signed) => Some(signed.text.bytes()),
+        None => None,
+    }
+}
+
+/// The counts with a session that the record begins; none where it is one too many of its role.
+fn counts_with(rec: &Rec, started: u32, accepted: u32) -> Option<(u32, u32)>
+    ensures { result ≡ counts_with rec.now started accepted }
+{
+    match *rec {
+        Rec::Began(Role::Origin, _) => {
+            if started < MOST_SESSIONS {
+                Some((started + 1, accepted))
+            } else {
+                None
+            }
+        }
+        Rec::Began(Role::Recipient, _) => {
+            if accepted < MOST_SESSIONS {
+                Some((started, accepted + 1))
+            } else {
+                None
+            }
+        }
+        _ => Some((started, accepted)),
+    }
+}
+
+fn misfit_of(fault: RecordFault) -> Misfit
+    ensures memory { fault ≡ RecordFault.Memory → result ≡ Misfit.Memory }
+    ensures other { fault ≢ RecordFault.Memory → result ≡ Misfit.Refused }
+{
+    match fault {
+        RecordFault::Memory => Misfit::Memory,
+        _ => Misfit::Refused,
+    }
+}

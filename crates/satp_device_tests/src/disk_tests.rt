@@ -103,6 +103,32 @@ fn a_disk_fails_where_it_is_told_to_until_it_is_cleared(rt: HostRuntime) {
     assert!(rt; seen == [Some(FAILING_CALLS), Some(CLEARED_CALLS)]);
 }
 
+/// Whether a disk has stopped after two events: before the first, after it, after the second, after a clearing, and after a restart.
+fn stops_seen(disk: &mut MemDisk) -> [bool; 5] {
+    disk.stop_at(2, 0);
+    let before = disk.is_stopped();
+    let _ = disk.write(Area::JournalA, 0, b"abc");
+    let after_one = disk.is_stopped();
+    let _ = disk.sync(Area::JournalA);
+    let after_two = disk.is_stopped();
+    disk.clear();
+    let cleared = disk.is_stopped();
+    let _ = disk.restart();
+    [before, after_one, after_two, cleared, disk.is_stopped()]
+}
+
+fn stops_of_a_new_disk(alloc: Global) -> Option<[bool; 5]> {
+    match MemDisk::new(alloc) {
+        Ok(mut disk) => Some(stops_seen(&mut disk)),
+        Err(_) => None,
+    }
+}
+
+#[test]
+fn a_disk_has_stopped_from_its_last_event_to_a_restart(rt: HostRuntime) {
+    assert!(rt; stops_of_a_new_disk(rt.alloc()) == Some([false, false, true, true, false]));
+}
+
 /// `abcd` is synced, then `XY` is laid over its end and `EF` after it: three events. The stop comes before the sync.
 fn stopped_image(disk: &mut MemDisk, pick: u32) -> Option<Image> {
     disk.stop_at(3, pick);

@@ -1,4 +1,4 @@
-//! Tests of devices in memory, of a journal on one of their disks, and of a site with accounts as its ledger.
+//! Tests of devices in memory: disks, streams and wires, a journal on a disk, and a site with accounts as its ledger.
 //!
 //! A function that owns a device has one way out, and what is looked at are plain values: else the proofs of the tests take minutes.
 #![tactic(auto)]
@@ -15,3 +15,5 @@ mod site_tests;
 mod stop_tests;
 #[cfg(test)]
 mod stream_tests;
+#[cfg(test)]
+mod wire_tests;

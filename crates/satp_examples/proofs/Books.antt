@@ -1,5 +1,5 @@
 -- The small ledgers of the examples: their entries and amounts.
-use Rattle.std.proofs.Common.{Bool, option_map, ◌≡◌, ◌≤◌, ◌+◌, ◌-◌, ℕ, true, false, List, [], ◌∷◌, Some, None, refl, sym, ap, ◌∙◌, subst, inl, inr, arith, lit≤, cond}
+use Rattle.std.proofs.Common.{Bool, option_map, ◌≡◌, ◌≤◌, ◌+◌, ◌-◌, ℕ, true, false, List, [], ◌∷◌, Some, None, refl, sym, ap, ◌∙◌, subst, inl, inr, arith, lit≤, cond, rules}
 use Rattle.std.specs.FinMap as map
 use Rattle.std.specs.List.{sum_by}
 use Rattle.std.specs.Option.{option_map_or}
@@ -10,7 +10,7 @@ use Rattle.satp_base.specs.GenesisText.{nothing}
 use Rattle.satp_base.specs.Keys.{session_cmp}
 use Rattle.satp_base.specs.declared.genesis.Asset.{Asset}
 use Rattle.satp_examples.specs.Genesis.{gold_1000}
-use Rattle.satp_base.specs.LedgerRule.{LedgerRule, RuleOn, entry_of, moved, lock_on, moves, operation, operation_on, stays, terms_of}
+use Rattle.satp_base.specs.LedgerRule.{IsOutOfOrder, LedgerRule, RuleOn, entry_of, moved, lock_on, moves, operation, operation_on, stays, terms_of}
 use Rattle.satp_base.specs.Ledgers.{Entries}
 use Rattle.satp_base.specs.Money.{Book, free_of, given, given_to_all, held, held_of_all, pledged, taken, taken_of_all, total_of}
 use Rattle.satp_base.specs.declared.ledger.Answer.TheVariants.{Done}
@@ -103,6 +103,9 @@ lock_leaves new h = lock_only new (subst (λ e. RuleOn new_book e Lock alpha_1 q
 
 pub locked_rule : LedgerRule (book_with Locked) Lock alpha_1 quarter Done (book_with Locked)
 locked_rule = subst (λ e. RuleOn (book_with Locked) e Lock alpha_1 quarter Done (book_with Locked)) (sym (entry_is Locked)) (inl (refl, refl))
+
+pub burn_of_nothing : IsOutOfOrder new_book Burn alpha_1 Absent
+burn_of_nothing = record { found = sym absent; bound = refl; other = search rules; no_line = refl }
 
 burns_nothing : (new : Book) → RuleOn new_book Absent Burn alpha_1 quarter Done new → ⊥
 burns_nothing new (inl h) = let bad = h.0 in absurd cc

@@ -2,7 +2,7 @@
 use Rattle.std.specs.Prelude.{◌+◌, ℕ, List, [], ◌∷◌, Option, Some, None, Result, Ok, Err}
 use Rattle.std.specs.FinMap as map
 use Rattle.satp_base.specs.Acts.{ActsOn, Applies, Asks, FoundEvents, FoundsBook, MayAdd, MayAnswer, MayRefuse, founded}
-use Rattle.satp_base.specs.Calls.{asked, made}
+use Rattle.satp_base.specs.Calls.{ask_failed, asked, call_failed, made}
 use Rattle.satp_base.specs.LedgerRule.{moved}
 use Rattle.satp_base.specs.Money.{Book, held, held_of_all}
 use Rattle.satp_base.specs.Soundness.{IsSound}
@@ -39,10 +39,13 @@ pub record OperationsOfALedger : Type 0 where
   pub done_before : ActsOn Lock alpha_1 quarter (book_with Locked) (Ok Done) [] (Some (book_with Locked))
   pub failed_without_effect : Locks (Err act.Failed) [] (Some new_book)
   pub failed_behind_its_effect : Locks (Err act.Failed) (lock_event ∷ []) (Some locked)
-  pub failed_and_tells_no_more : Locks (Err act.Failed) (lock_event ∷ []) None
   pub out_of_order : ActsOn Burn alpha_1 quarter new_book (Err (act.OutOfOrder Absent)) [] (Some new_book)
   pub not_done_without_its_event : ¬ Locks (Ok Done) [] (Some locked)
   pub not_done_and_told_no_more : ¬ Locks (Ok Done) (lock_event ∷ []) None
+  -- nor does a ledger fall silent by one that failed
+  pub not_failed_and_told_no_more : ¬ Locks (Err act.Failed) [] None
+  pub not_told_no_more_after_its_effect : ¬ Locks (Err act.Failed) (lock_event ∷ []) None
+  pub not_failed_after_its_effect_without_its_event : ¬ Locks (Err act.Failed) [] (Some locked)
   pub no_event_where_nothing_changes : ¬ ActsOn Lock alpha_1 quarter (book_with Locked) (Ok Done) (lock_event ∷ []) (Some (book_with Locked))
   pub not_out_of_order : ¬ Locks (Err (act.OutOfOrder Absent)) [] (Some new_book)
 
@@ -66,8 +69,11 @@ pub record CallsOfALedger : Type 0 where
   pub not_twice : ¬ MayAdd lock_event (Ok Done) (lock_event ∷ lock_event ∷ [])
   -- a call is told by name; a failed one may be counted alone
   pub told : Asks {T = ℕ} {E = ℕ} Raise [] (Ok 0) (Some two_calls) (Some (asked Raise [] two_calls))
-  pub counted_alone : Asks {T = ℕ} {E = ℕ} Raise [] (Err 0) (Some two_calls) (Some (made 1 [] two_calls))
+  pub told_that_it_failed : Asks {T = ℕ} {E = ℕ} Raise [] (Err 0) (Some two_calls) (Some (ask_failed Raise [] two_calls))
+  pub counted_alone : Asks {T = ℕ} {E = ℕ} Raise [] (Err 0) (Some two_calls) (Some (call_failed [] two_calls))
   pub not_counted_alone : ¬ Asks {T = ℕ} {E = ℕ} Raise [] (Ok 0) (Some two_calls) (Some (made 1 [] two_calls))
+  pub not_failed_as_one_that_succeeded : ¬ Asks {T = ℕ} {E = ℕ} Raise [] (Err 0) (Some two_calls) (Some (asked Raise [] two_calls))
+  pub not_counted_as_one_that_succeeded : ¬ Asks {T = ℕ} {E = ℕ} Raise [] (Err 0) (Some two_calls) (Some (made 1 [] two_calls))
   pub not_uncounted : ¬ Asks {T = ℕ} {E = ℕ} Raise [] (Err 0) (Some two_calls) (Some two_calls)
 
 pub record FoundingsOfALedger : Type 0 where

@@ -1,6 +1,6 @@
 -- What a device tells after a call that succeeded, and after one that failed.
 use Rattle.std.specs.Prelude.{◌≡◌, ℕ, ◌-◌, ◌^◌, Bool, true, false, List, [], ◌∷◌, ◌++◌, Option, Some, None, codes}
-use Rattle.satp_base.specs.Calls.{Ask, Entering, Fails, FailsAmong, Makes, MayMiss, Reads, Told, asked, call_failed, calls_of, enter_failed, entered, made, risen}
+use Rattle.satp_base.specs.Calls.{Ask, Entering, Fails, FailsAmong, Makes, MayMiss, Reads, Told, ask_failed, asked, call_failed, calls_of, enter_failed, entered, made, risen}
 use Rattle.satp_base.specs.Segments.{append_events}
 use Rattle.satp_base.specs.declared.area.Area.TheVariants.{JournalA, JournalB}
 use Rattle.satp_base.specs.declared.area.Event.{Event}
@@ -38,6 +38,20 @@ pub record CallsAreTold : Type 0 where
   pub before_the_end : risen (2 ^ 64 - 2) 1 ≡ 2 ^ 64 - 1
   pub past_the_end : risen (2 ^ 64 - 2) 4 ≡ 2 ^ 64 - 1
   pub at_the_end : risen (2 ^ 64 - 1) 1 ≡ 2 ^ 64 - 1
+
+-- a journal that is there already is opened by a sync, a look at the length and a read
+abbrev pub opened : Told → Told
+opened t = made 3 (Synced JournalA ∷ []) t
+
+-- Two histories that differ in the order of their calls, or in which of them failed, are told otherwise.
+pub record OrderOfCalls : Type 0 where
+  pub entered_first : (opened (entered (codes "d") two_calls)).dirs ≡ to_d true ∷ []
+  pub not_opened_before_it_is_entered : ¬ (entered (codes "d") (opened two_calls) ≡ opened (entered (codes "d") two_calls))
+  pub no_failed_entering_passed_over : ¬ (opened (enter_failed (codes "d") two_calls) ≡ opened (entered (codes "d") two_calls))
+  pub no_failed_raise_passed_over : ¬ (opened (ask_failed Raise [] two_calls) ≡ opened (asked Raise [] two_calls))
+  pub the_last_that_failed : (made 1 [] (call_failed [] two_calls)).last_failed ≡ Some 3
+  pub the_later_of_two : (call_failed [] (call_failed [] two_calls)).last_failed ≡ Some 4
+  pub not_the_call_after : ¬ (call_failed [] (made 1 [] two_calls) ≡ made 1 [] (call_failed [] two_calls))
 
 abbrev pub write : Event
 write = Wrote JournalA 3 (4 ∷ [])

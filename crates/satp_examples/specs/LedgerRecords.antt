@@ -1,6 +1,6 @@
 -- Operations on the ledger of a site in memory, and records that go with a ledger.
 use Rattle.std.specs.Prelude.{[], ◌∷◌, Option, Some, Result, Ok, Err}
-use Rattle.satp_base.specs.Calls.{Told, asked, made}
+use Rattle.satp_base.specs.Calls.{Told, ask_failed, asked, call_failed, made}
 use Rattle.satp_base.specs.Money.{Book}
 use Rattle.satp_base.specs.declared.ledger.ActFault.{ActFault}
 use Rattle.satp_base.specs.declared.ledger.ActFault.TheVariants.{Failed}
@@ -33,8 +33,9 @@ LocksAndTells result new told = ActTells Lock alpha_1 quarter (Some new_book) re
 
 pub record OperationsThatAreTold : Type 0 where
   pub done : LocksAndTells (Ok Done) (Some locked) (asked call (lock_event ∷ []) two_calls)
-  pub failed : LocksAndTells (Err Failed) (Some new_book) (asked call [] two_calls)
-  pub failed_and_only_counted : LocksAndTells (Err Failed) (Some new_book) (made 1 [] two_calls)
+  pub failed : LocksAndTells (Err Failed) (Some new_book) (ask_failed call [] two_calls)
+  pub failed_and_only_counted : LocksAndTells (Err Failed) (Some new_book) (call_failed [] two_calls)
+  pub not_failed_as_one_that_succeeded : ¬ LocksAndTells (Err Failed) (Some new_book) (asked call [] two_calls)
   pub not_done_without_its_event : ¬ LocksAndTells (Ok Done) (Some locked) (asked call [] two_calls)
   pub not_done_and_only_counted : ¬ LocksAndTells (Ok Done) (Some locked) (made 1 (lock_event ∷ []) two_calls)
   pub not_done_and_forgotten : ¬ LocksAndTells (Ok Done) (Some new_book) (asked call (lock_event ∷ []) two_calls)

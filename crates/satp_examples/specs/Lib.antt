@@ -35,3 +35,5 @@ pub mod Runs
 pub mod RealSites
 pub mod Choices
 pub mod Verdicts
+pub mod MemoryCalls
+pub mod MemoryWires

@@ -20,17 +20,22 @@ pub record CallsThatFail : Type 0 where
   pub not_where_cleared : is_due (cleared (naming 1 fresh)) ≡ false
   pub each_behind_a_stop : is_refused true fresh ≡ true
   pub counts_of_a_success : begun false fresh ≡ record fresh { count = 1 }
-  pub counts_of_a_failure : begun false (naming 1 fresh) ≡ record { count = 1; faults = 1; wants = 0; named = 1 ∷ [] }
-  pub counts_behind_a_stop : begun true fresh ≡ record fresh { count = 1; faults = 1 }
+  pub counts_of_a_failure : begun false (naming 1 fresh) ≡ record { count = 1; faults = 1; wants = 0; last_failed = Some 1; named = 1 ∷ [] }
+  pub counts_behind_a_stop : begun true fresh ≡ record fresh { count = 1; faults = 1; last_failed = Some 1 }
+  -- the last one that failed is told, also after one that succeeded
+  pub the_last_that_failed : succeeded (failed (naming 1 fresh)) ≡ record { count = 2; faults = 1; wants = 0; last_failed = Some 1; named = 1 ∷ [] }
+  pub the_later_of_two : failed (failed fresh) ≡ record fresh { count = 2; faults = 2; last_failed = Some 2 }
   -- want of memory is a fault that is counted beside
-  pub counts_without_memory : wanting (begun false fresh) ≡ record fresh { count = 1; faults = 1; wants = 1 }
-  pub counts_where_it_fails_anyway : wanting (begun true fresh) ≡ record fresh { count = 1; faults = 2; wants = 1 }
+  pub counts_without_memory : wanting (begun false fresh) ≡ record fresh { count = 1; faults = 1; wants = 1; last_failed = Some 1 }
+  pub counts_where_it_fails_anyway : wanting (begun true fresh) ≡ record fresh { count = 1; faults = 2; wants = 1; last_failed = Some 1 }
 
 pub record CallsOnLedgers : Type 0 where
   pub done : LedgerEnds {T = ℕ} {E = ℕ} false true fresh (succeeded fresh) (Ok 0)
   pub failed_where_named : LedgerEnds {T = ℕ} {E = ℕ} true true fresh (failed fresh) (Err 0)
   pub failed_where_not_founded : LedgerEnds {T = ℕ} {E = ℕ} false false fresh (failed fresh) (Err 0)
   pub without_memory : LedgerEnds {T = ℕ} {E = ℕ} false true fresh (wanting (succeeded fresh)) (Err 0)
+  pub without_memory_where_not_founded : LedgerEnds {T = ℕ} {E = ℕ} false false fresh (wanting (failed fresh)) (Err 0)
+  pub not_merely_wanting_where_not_founded : ¬ LedgerEnds {T = ℕ} {E = ℕ} false false fresh (wanting (succeeded fresh)) (Err 0)
   pub without_memory_where_named : LedgerEnds {T = ℕ} {E = ℕ} true true fresh (wanting (failed fresh)) (Err 0)
   pub not_done_where_named : (new : Calling) → ¬ LedgerEnds {T = ℕ} {E = ℕ} true true fresh new (Ok 0)
   pub not_done_where_not_founded : (new : Calling) → ¬ LedgerEnds {T = ℕ} {E = ℕ} false false fresh new (Ok 0)

@@ -1,5 +1,5 @@
 -- A disk in memory: one that stands so before a call and so behind it, and how the call ended.
-use Rattle.std.specs.Prelude.{◌≡◌, ℕ, List, [], ◌∷◌, ◌++◌, Option, Some, None, Ok, Err, codes}
+use Rattle.std.specs.Prelude.{◌≡◌, ℕ, true, false, List, [], ◌∷◌, ◌++◌, Option, Some, None, Ok, Err, codes}
 use Rattle.std.specs.FinMap as map
 use Rattle.satp_base.specs.declared.area.Area.{Area}
 use Rattle.satp_base.specs.declared.area.Area.TheVariants.{JournalA, JournalB, Ledger}
@@ -8,7 +8,7 @@ use Rattle.satp_base.specs.declared.area.Event.TheVariants.{Wrote, Synced}
 use Rattle.satp_base.specs.declared.ledger.LedgerCall.TheVariants.{Raise}
 use Rattle.satp_memory.specs.Areas.{bytes_in}
 use Rattle.satp_memory.specs.Calling.{Calling, failed, fresh, naming, succeeded, wanting}
-use Rattle.satp_memory.specs.Steps.{Adds, Does, Ends, EndsOrWants, EntersOrWants, IsFresh, Notes, Restarts, SameDisk, told_of}
+use Rattle.satp_memory.specs.Steps.{Adds, asking, Does, entering, Ends, EndsOrWants, EntersOrWants, IsFresh, Notes, Restarts, SameDisk, told_of}
 use Rattle.satp_memory.specs.Stopping.{stop_after}
 use Rattle.satp_memory.specs.declared.disk.MemDisk.{MemDisk}
 use Rattle.satp_memory.specs.declared.stop.Stop.{Stop}
@@ -49,10 +49,10 @@ pub record EndsOfCalls : Type 0 where
   pub not_done_without_memory : (old new : MemDisk) → Runs old → Counts new (wanting (succeeded fresh)) → ¬ EndsOrWants {T = ℕ} {E = ℕ} old new (Ok 0)
 
 pub record NotesOfCalls : Type 0 where
-  pub a_directory : (old new : MemDisk) → HasStopped old → Counts new (failed fresh) → new.dirs.items ≡ old.dirs.items ++ codes "d" ∷ [] → EntersOrWants {T = ℕ} {E = ℕ} (codes "d") old new (Err 0)
+  pub a_directory : (old new : MemDisk) → HasStopped old → Counts new (failed fresh) → new.dirs.items ≡ old.dirs.items ++ entering (codes "d") old false ∷ [] → EntersOrWants {T = ℕ} {E = ℕ} (codes "d") old new (Err 0)
   pub not_noted_for_want : (old new : MemDisk) → HasStopped old → Counts new (wanting (failed fresh)) → EntersOrWants {T = ℕ} {E = ℕ} (codes "d") old new (Err 0)
   pub not_unnoted : (old new : MemDisk) → HasStopped old → Counts new (failed fresh) → old.dirs.items ≡ [] → new.dirs.items ≡ [] → ¬ EntersOrWants {T = ℕ} {E = ℕ} (codes "d") old new (Err 0)
-  pub a_call : (old new : MemDisk) → old.asks.items ≡ [] → new.asks.items ≡ Raise ∷ [] → Notes {T = ℕ} {E = ℕ} Raise old new (Ok 0)
+  pub a_call : (old new : MemDisk) → old.asks.items ≡ [] → new.asks.items ≡ asking Raise old true ∷ [] → Notes {T = ℕ} {E = ℕ} Raise old new (Ok 0)
   pub not_done_unnoted : (old new : MemDisk) → old.asks.items ≡ [] → new.asks.items ≡ [] → ¬ Notes {T = ℕ} {E = ℕ} Raise old new (Ok 0)
   pub not_failed_unnoted : (old new : MemDisk) → HasStopped old → Counts new (failed fresh) → old.asks.items ≡ [] → new.asks.items ≡ [] → ¬ Notes {T = ℕ} {E = ℕ} Raise old new (Err 0)
 
@@ -77,7 +77,7 @@ abbrev pub StopsBy : ℕ → MemDisk → Type 0
 StopsBy pick disk = Standing disk fresh (Some (stop_after 1 0 pick)) one_write × ((a : Area) → bytes_in disk.start a ≡ three) × (disk.past.items ≡ [])
 
 pub record FreshAndRestarted : Type 0 where
-  pub tells_nothing : (disk : MemDisk) → IsFresh disk → disk.calls ≡ fresh → told_of disk ≡ record { trail = record { start = bytes_in disk.start; entries = map.empty; events = [] }; dirs = []; calls = 0; asks = [] }
+  pub tells_nothing : (disk : MemDisk) → IsFresh disk → disk.calls ≡ fresh → told_of disk ≡ record { trail = record { start = bytes_in disk.start; entries = map.empty; events = [] }; dirs = []; calls = 0; last_failed = None; asks = [] }
   pub not_behind_an_event : (disk : MemDisk) → disk.events.items ≡ one_write → ¬ IsFresh disk
   pub not_with_a_byte : (disk : MemDisk) → bytes_in disk.start Ledger ≡ 0 ∷ [] → ¬ IsFresh disk
   pub not_with_a_stop : (disk : MemDisk) → HasStopped disk → ¬ IsFresh disk

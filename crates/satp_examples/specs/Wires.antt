@@ -1,6 +1,6 @@
 -- What streams and wires tell.
 use Rattle.std.specs.Prelude.{◌≡◌, ℕ, ◌-◌, ◌^◌, List, [], ◌∷◌, Option, Some, None, Result, Ok, Err, true, false}
-use Rattle.satp_base.specs.Streams.{Gains, HasCause, Rose, TakesFront}
+use Rattle.satp_base.specs.Streams.{Gains, HasCause, Rose, TakesFront, is_last}
 use Rattle.satp_base.specs.Wires.{Conversation, MayMiss, Traffic, called, hears, missed, says}
 use Rattle.satp_base.specs.declared.wire.Dial.TheVariants.{Accept}
 
@@ -19,7 +19,8 @@ pub record CausesOfFaults : Type 0 where
   pub fault : HasCause 3 4 failed
   pub success : HasCause 3 3 succeeded
   pub no_fault_without_a_rise : ¬ HasCause 3 3 failed
-  pub no_fall : ¬ HasCause 3 2 succeeded
+  pub no_rise_by_a_success : ¬ HasCause 3 4 succeeded
+  pub no_fall : ¬ HasCause 3 2 failed
 
 -- ---- streams
 
@@ -36,6 +37,17 @@ pub record ReadsAndWrites : Type 0 where
   pub not_none_of_a_piece : ¬ Gains (Some (1 ∷ [])) (2 ∷ 3 ∷ []) 0 (Some (1 ∷ []))
   pub not_before_the_others : ¬ Gains (Some (1 ∷ [])) (2 ∷ 3 ∷ []) 1 (Some (2 ∷ 1 ∷ []))
   pub not_all_of_it : ¬ Gains (Some (1 ∷ [])) (2 ∷ 3 ∷ []) 1 (Some (1 ∷ 2 ∷ 3 ∷ []))
+
+abbrev pub one_byte : Result ℕ ℕ
+one_byte = Ok 1
+
+-- a read into so much room, after which the source isn't read again
+pub record LastReads : Type 0 where
+  pub the_end : is_last 2 succeeded ≡ true
+  pub a_fault : is_last 2 failed ≡ true
+  pub not_some_bytes : is_last 2 one_byte ≡ false
+  -- without room nothing is found out
+  pub not_none_without_room : is_last 0 succeeded ≡ false
 
 -- ---- wires
 

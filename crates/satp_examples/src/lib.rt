@@ -1,6 +1,6 @@
 //! The definitions that public contracts cite, at work on small values: for each an example that it takes, and a near miss that it refuses.
 //!
-//! The laws of this crate stand over definitions alone. They make no call: what each says is its contract.
+//! The laws of this crate stand over definitions alone. They make no call: what each says is its contract. Beside them stands a function that calls a site, with its use at a site in memory.
 #![tactic(auto)]
 
 mod accounts;
@@ -20,7 +20,9 @@ mod keepers;
 mod ledger_records;
 mod ledgers;
 mod memory;
+mod memory_calls;
 mod memory_disks;
+mod memory_wires;
 mod messages;
 mod outputs;
 mod real_sites;
@@ -33,6 +35,7 @@ mod segments;
 mod set_up_stops;
 mod set_ups;
 mod signatures;
+mod site_calls;
 mod site_points;
 mod stops;
 mod tales;
@@ -57,7 +60,9 @@ pub use keepers::law_keepers;
 pub use ledger_records::law_ledger_records;
 pub use ledgers::law_ledgers;
 pub use memory::law_memory;
+pub use memory_calls::law_memory_calls;
 pub use memory_disks::law_memory_disks;
+pub use memory_wires::law_memory_wires;
 pub use messages::law_messages;
 pub use outputs::law_outputs;
 pub use real_sites::law_real_sites;
@@ -70,6 +75,7 @@ pub use segments::law_segments;
 pub use set_up_stops::law_set_up_stops;
 pub use set_ups::law_set_ups;
 pub use signatures::law_signed_texts;
+pub use site_calls::{write_and_act, write_and_act_in_memory};
 pub use site_points::law_site_points;
 pub use stops::law_site_steps;
 pub use tales::law_tales;

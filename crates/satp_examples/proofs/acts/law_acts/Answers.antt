@@ -1,42 +1,47 @@
-use Rattle.std.proofs.Common.{◌≡◌, ◌≤◌, ◌+◌, ◌-◌, ℕ, Bool, true, false, cond, List, [], ◌∷◌, Some, None, option_map, refl, sym, ap, ◌∙◌, subst, inl, inr, arith, lit≤, rules}
+use Rattle.std.proofs.Common.{◌≡◌, ◌≤◌, ◌+◌, ◌-◌, ℕ, Bool, true, false, cond, List, [], ◌∷◌, Some, None, option_map, refl, sym, ap, ◌∙◌, subst, inl, inr, arith, lit≤}
 use Rattle.std.specs.FinMap as map
 use Rattle.std.specs.List.{sum_by}
 use Rattle.std.specs.Prelude.{unwrap_or}
 use Rattle.satp_base.specs.Acts.{operation_events}
 use Rattle.satp_base.specs.Founding.{counted, equal_names}
 use Rattle.satp_base.specs.Keys.{session_cmp}
-use Rattle.satp_base.specs.LedgerRule.{IsOutOfOrder, Operation, entry_of}
+use Rattle.satp_base.specs.LedgerRule.{Operation, entry_of}
 use Rattle.satp_base.specs.Money.{Book, cap_of, given, given_to_all, pledged, taken, taken_of_all}
 use Rattle.satp_base.specs.declared.area.Event.{Event}
 use Rattle.satp_base.specs.declared.genesis.Asset.{Asset}
-use Rattle.satp_base.specs.declared.ledger.Entry.TheVariants.{Absent, Locked}
+use Rattle.satp_base.specs.declared.ledger.Entry.TheVariants.{Locked}
 use Rattle.satp_base.specs.declared.ledger.LedgerEntry.{LedgerEntry}
-use Rattle.satp_base.specs.declared.ledger.LedgerOp.TheVariants.{Lock, Burn}
+use Rattle.satp_base.specs.declared.ledger.LedgerOp.TheVariants.{Lock}
 use Rattle.satp_base.specs.declared.session.SessionId.{SessionId}
 use Rattle.satp_base.proofs.SessionLemmas.{sessions_total}
-use Rattle.satp_examples.specs.Acts.{overdrawn}
+use Rattle.satp_examples.specs.Acts.{locked, overdrawn}
 use Rattle.satp_examples.specs.Genesis.{gold_1000}
 use Rattle.satp_examples.specs.Ledgers.{book_with, new_book, past_what_is_free, with_gold}
 use Rattle.satp_examples.specs.Samples.{alpha_1, ann, gold, quarter}
-use Rattle.satp_examples.proofs.Books.{absent, entry_is, lock_is, locked_is, no_entries, one_entry, total_among}
+use Rattle.satp_examples.proofs.Books.{absent, burn_of_nothing, entry_is, lock_changes, lock_is, locked_is, no_entries, one_entry, total_among}
 use Rattle.satp_examples.proofs.acts.law_acts.Goals as goal
 
 abbrev events_of : Operation → List Event
 events_of o = operation_events o Lock alpha_1 quarter
 
-burn_of_nothing : IsOutOfOrder new_book Burn alpha_1 Absent
-burn_of_nothing = record { found = sym absent; bound = refl; other = search rules; no_line = refl }
+some_book : Some locked ≡ Some new_book → locked ≡ new_book
+some_book e = cc
+
+locked_new : locked ≡ new_book → ⊥
+locked_new e = lock_changes (sym e)
 
 pub returns-clause-operations : goal.returns-clause-operations
 returns-clause-operations c = record {
   done = (ap (λ (o : Operation). o.answer) lock_is, sym (ap (λ (o : Operation). Some o.after) lock_is), sym (ap events_of lock_is));
   done_before = (ap (λ (o : Operation). o.answer) locked_is, sym (ap (λ (o : Operation). Some o.after) locked_is), sym (ap events_of locked_is));
-  failed_without_effect = inl (refl, inr refl);
-  failed_behind_its_effect = inr (sym (ap events_of lock_is), inr (sym (ap (λ (o : Operation). Some o.after) lock_is)));
-  failed_and_tells_no_more = inr (sym (ap events_of lock_is), inl refl);
+  failed_without_effect = inl (refl, refl);
+  failed_behind_its_effect = inr (sym (ap events_of lock_is), sym (ap (λ (o : Operation). Some o.after) lock_is));
   out_of_order = (burn_of_nothing, refl, refl);
   not_done_without_its_event = λ h. let is = h.2 ∙ ap events_of lock_is in absurd cc;
   not_done_and_told_no_more = λ h. let is = h.1 in absurd cc;
+  not_failed_and_told_no_more = λ h. elim h [ inl still ↦ (let is = still.1 in absurd cc) | inr moved ↦ (let is = moved.1 in absurd cc) ];
+  not_told_no_more_after_its_effect = λ h. elim h [ inl still ↦ (let is = still.1 in absurd cc) | inr moved ↦ (let is = moved.1 in absurd cc) ];
+  not_failed_after_its_effect_without_its_event = λ h. elim h [ inl still ↦ locked_new (some_book still.1) | inr moved ↦ (let is = moved.0 ∙ ap events_of lock_is in absurd cc) ];
   no_event_where_nothing_changes = λ h. let is = h.2 ∙ ap events_of locked_is in absurd cc;
   not_out_of_order = λ h. let bound = h.0.bound in absurd cc;
 }

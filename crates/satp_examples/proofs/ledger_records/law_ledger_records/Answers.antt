@@ -1,7 +1,7 @@
-use Rattle.std.proofs.Common.{◌≡◌, ℕ, List, [], ◌∷◌, Option, Some, refl, sym, ap, ◌∙◌, subst, inl, inr, arith, lit<}
+use Rattle.std.proofs.Common.{◌≡◌, ℕ, List, [], ◌∷◌, Option, Some, None, refl, sym, ap, ◌∙◌, subst, inl, inr, arith, lit<}
 use Rattle.std.specs.Option.{option_map_or}
 use Rattle.satp_base.specs.Acts.{operation_events}
-use Rattle.satp_base.specs.Calls.{Told}
+use Rattle.satp_base.specs.Calls.{Ask, Told}
 use Rattle.satp_base.specs.LedgerRule.{Operation, RuleOn, entry_of, operation}
 use Rattle.satp_base.specs.Money.{Book}
 use Rattle.satp_base.specs.Roles.{After}
@@ -9,7 +9,6 @@ use Rattle.satp_base.specs.declared.area.Event.{Event}
 use Rattle.satp_base.specs.declared.ledger.Answer.{Answer}
 use Rattle.satp_base.specs.declared.ledger.Answer.TheVariants.{Capped, Done, NoFunds, Taken, UnknownAsset as unknown}
 use Rattle.satp_base.specs.declared.ledger.Entry.TheVariants.{Absent, Locked}
-use Rattle.satp_base.specs.declared.ledger.LedgerCall.{LedgerCall}
 use Rattle.satp_base.specs.declared.ledger.LedgerOp.{LedgerOp}
 use Rattle.satp_base.specs.declared.ledger.LedgerOp.TheVariants.{Lock, Mint}
 use Rattle.satp_base.specs.declared.message.Terms.{Terms}
@@ -30,7 +29,10 @@ events_of o = operation_events o Lock alpha_1 quarter
 abbrev told_events : Option Told → List Event
 told_events o = option_map_or (λ (t : Told). t.trail.events) o []
 
-abbrev told_asks : Option Told → List LedgerCall
+abbrev told_failure : Option Told → Option ℕ
+told_failure o = option_map_or (λ (t : Told). t.last_failed) o None
+
+abbrev told_asks : Option Told → List Ask
 told_asks o = option_map_or (λ (t : Told). t.asks) o []
 
 the_book : (b : Book) → Some b ≡ Some (operation new_book Lock alpha_1 quarter).after → b ≡ locked
@@ -42,8 +44,9 @@ the_book b e = some_book b locked (e ∙ ap (λ (o : Operation). Some o.after) l
 pub returns-clause-told : goal.returns-clause-told
 returns-clause-told c = record {
   done = (lock_event ∷ [], inl refl, (ap (λ (o : Operation). o.answer) lock_is, sym (ap (λ (o : Operation). Some o.after) lock_is), sym (ap events_of lock_is)), refl);
-  failed = ([], inr refl, inl (refl, inr refl), inl refl);
-  failed_and_only_counted = ([], inr refl, inl (refl, inr refl), inr refl);
+  failed = ([], inr refl, inl (refl, refl), inl refl);
+  failed_and_only_counted = ([], inr refl, inl (refl, refl), inr refl);
+  not_failed_as_one_that_succeeded = λ h. elim h.3 [ inl told ↦ (let bad = ap told_failure told in absurd cc) | inr counted ↦ (let bad = ap told_failure counted in absurd cc) ];
   not_done_without_its_event = λ h. let is = h.2.2 ∙ ap events_of lock_is in let told = ap told_events h.3 in absurd cc;
   not_done_and_only_counted = λ h. let told = ap told_asks h.3 in absurd cc;
   not_done_and_forgotten = λ h. lock_changes (the_book new_book h.2.1);

@@ -8,7 +8,7 @@ use Rattle.satp_base.specs.declared.area.Event.TheVariants.{Synced}
 use Rattle.satp_base.specs.declared.ledger.LedgerCall.TheVariants.{Raise}
 use Rattle.satp_memory.specs.Areas.{bytes_in}
 use Rattle.satp_memory.specs.Calling.{Calling, begun, failed, fresh, is_due, is_refused, naming, succeeded, wanting}
-use Rattle.satp_memory.specs.Steps.{EndsOrWants, EntersOrWants, Adds, Notes, Restarts, is_stopped, trail_of}
+use Rattle.satp_memory.specs.Steps.{EndsOrWants, EntersOrWants, Adds, Notes, Restarts, asking, entering, is_stopped, trail_of}
 use Rattle.satp_memory.specs.Stopping.{is_reached, pick_of, stop_after}
 use Rattle.satp_memory.specs.declared.disk.MemDisk.{MemDisk}
 use Rattle.satp_memory.specs.declared.stop.Stop.{Stop}
@@ -85,20 +85,20 @@ begun_stopped : (old : MemDisk) → HasStopped old → begun (is_stopped old) ol
 begun_stopped old s = begun_is old fresh (Some (stop_after 1 0 0)) one_write s
 
 unnoted_dir : (old new : MemDisk) → HasStopped old → Counts new (failed fresh) → old.dirs.items ≡ [] → new.dirs.items ≡ [] → ¬ EntersOrWants {T = ℕ} {E = ℕ} (codes "d") old new (Err 0)
-unnoted_dir old new s c before now (inl h) = let bad : [] ≡ codes "d" ∷ [] = sym now ∙ (h.2 ∙ ap (λ ds. ds ++ codes "d" ∷ []) before) in absurd cc
+unnoted_dir old new s c before now (inl h) = let bad : [] ≡ entering (codes "d") old false ∷ [] = sym now ∙ (h.2 ∙ ap (λ ds. ds ++ entering (codes "d") old false ∷ []) before) in absurd cc
 unnoted_dir old new s c before now (inr h) = unlike (failed fresh) (wanting (failed fresh)) (sym c ∙ (h ∙ ap wanting (begun_stopped old s))) refl refl
 
 unnoted_call : (old new : MemDisk) → HasStopped old → Counts new (failed fresh) → old.asks.items ≡ [] → new.asks.items ≡ [] → ¬ Notes {T = ℕ} {E = ℕ} Raise old new (Err 0)
-unnoted_call old new s c before now (inl h) = let bad : [] ≡ Raise ∷ [] = sym now ∙ (h ∙ ap (λ xs. xs ++ Raise ∷ []) before) in absurd cc
-unnoted_call old new s c before now (inr h) = unlike (failed fresh) (wanting (failed fresh)) (sym c ∙ (h ∙ ap wanting (begun_stopped old s))) refl refl
+unnoted_call old new s c before now (inl h) = let bad : [] ≡ asking Raise old false ∷ [] = sym now ∙ (h ∙ ap (λ xs. xs ++ asking Raise old false ∷ []) before) in absurd cc
+unnoted_call old new s c before now (inr h) = let was : old.calls.wants ≡ 0 = ap (λ (x : Calling). x.wants) s.counted in let is : new.calls.wants ≡ 0 = ap (λ (x : Calling). x.wants) c in absurd (omega (arith, h.0, was, is))
 
 pub returns-clause-notes : goal.returns-clause-notes
 returns-clause-notes c = record {
   a_directory = λ old new s n d. inl (stopped_fails old s, n ∙ sym (ap failed s.counted), d);
   not_noted_for_want = λ old new s n. inr (n ∙ sym (ap wanting (begun_stopped old s)));
   not_unnoted = unnoted_dir;
-  a_call = λ old new before now. now ∙ sym (ap (λ xs. xs ++ Raise ∷ []) before);
-  not_done_unnoted = λ old new before now h. let bad : [] ≡ Raise ∷ [] = sym now ∙ (h ∙ ap (λ xs. xs ++ Raise ∷ []) before) in absurd cc;
+  a_call = λ old new before now. now ∙ sym (ap (λ xs. xs ++ asking Raise old true ∷ []) before);
+  not_done_unnoted = λ old new before now h. let bad : [] ≡ asking Raise old true ∷ [] = sym now ∙ (h ∙ ap (λ xs. xs ++ asking Raise old true ∷ []) before) in absurd cc;
   not_failed_unnoted = unnoted_call;
 }
 

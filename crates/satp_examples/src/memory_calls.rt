@@ -1,0 +1,9 @@
+// A disk and a site in memory over calls.
+ghost use Rattle.satp_examples.specs.MemoryCalls.{DisksGoOn, CausesOfFaultsInMemory, SitesGoOn};
+
+/// How a disk and a site in memory go on over calls, and why a call on them may fail.
+pub fn law_memory_calls()
+    ensures disks { DisksGoOn }
+    ensures causes { CausesOfFaultsInMemory }
+    ensures sites { SitesGoOn }
+{}

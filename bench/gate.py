@@ -3,8 +3,8 @@
 
     bench/gate.py [COMMAND ..]
 
-It looks at the processes of this machine every second, so let nothing else be proved meanwhile. A check that is over
-within a second may be missed. The status is the command's.
+It looks at the processes of this machine every second. What is proved elsewhere meanwhile isn't counted, but makes all
+of it slower. A check that is over within a second may be missed. The status is the command's.
 """
 
 import os
@@ -28,11 +28,14 @@ def check_of(pid, top):
     if os.path.basename(words[0]) != "rattle" or "--crate-name" not in words:
         return None
     crate = words[words.index("--crate-name") + 1]
-    # a wrong body is tried on a copy of the crate in another place
-    if not os.readlink(f"/proc/{pid}/cwd").startswith(f"{top}/"):
+    folder = os.readlink(f"/proc/{pid}/cwd")
+    if folder.startswith(f"{top}/"):
+        part = "tests" if "--test" in words else "proof"
+    elif "/rt-edit" in folder:
+        # A wrong body is tried on a copy of the crate.
         part = "edits"
     else:
-        part = "tests" if "--test" in words else "proof"
+        return None
     # the fields after the name, which may hold spaces: user and system time are the 12th and 13th, the start is the 20th
     fields = read(pid, "stat").rsplit(b")", 1)[1].split()
     return (pid, fields[19]), (crate, part, (int(fields[11]) + int(fields[12])) / TICKS_A_MINUTE)

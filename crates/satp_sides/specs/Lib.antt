@@ -7,3 +7,4 @@ pub mod Halves
 pub mod DueLaws
 pub mod LogLaws
 pub mod Said
+pub mod Others

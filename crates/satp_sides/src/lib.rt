@@ -7,6 +7,7 @@ ghost use Rattle.std.specs.Prelude.{List};
 ghost use Rattle.satp_sides.specs.Points.{Party, Side, Text};
 ghost use Rattle.satp_sides.specs.Said.{MovesGo, SaidIsKept};
 ghost use Rattle.satp_sides.specs.DueLaws.{DueIsAnswered, DueIsShort, DueRests, MadeRests, TurnsAreEnough};
+ghost use Rattle.satp_sides.specs.Others.{DueIsOf, RunsAreOf};
 ghost use Rattle.satp_sides.specs.LogLaws.{LogGrows, LogSessions, LogTexts, LogsAreBounded};
 
 /// Due work is done within three turns, over every view: it stores at most three records and asks for at most two
@@ -31,8 +32,11 @@ pub fn law_logs()
 {}
 
 /// What holds of every list of moves. Its first ones are moves, which is what a stop leaves, and it stays one where more
-/// texts are in the bag. It keeps a log, and what a gateway may say stands in its records from then on.
+/// texts are in the bag. It keeps a log, and what a gateway may say stands in its records from then on. The moves of due
+/// work, and of every call, are of its session.
 pub fn law_moves()
     ensures go { (p : Party) (side : Side) (bag : List Text) → MovesGo p side bag }
     ensures said { SaidIsKept }
+    ensures due_of { DueIsOf }
+    ensures call_of { RunsAreOf }
 {}

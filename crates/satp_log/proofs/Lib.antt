@@ -2,3 +2,5 @@ pub mod HearLemmas
 pub mod Comings
 pub mod Folds
 pub mod JournalLemmas
+pub mod Entries
+pub mod LogLemmas

@@ -1,3 +1,4 @@
 pub mod Hearing
 pub mod Folding
 pub mod Journals
+pub mod Logged

@@ -3,10 +3,13 @@
 
 mod fault;
 mod hearing;
+mod held;
+mod journal;
 mod laws;
 mod state;
 
 pub use fault::{Misfit, Unheard};
 pub use hearing::hear;
+pub use journal::Log;
 pub use laws::law_journals;
 pub use state::SessionState;

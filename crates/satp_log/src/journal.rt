@@ -1,0 +1,124 @@
+ghost use Rattle.std.specs.Prelude.{◌≡◌, ◌≢◌, ℕ, List, Some, None, slice_get};
+ghost use Rattle.std.specs.Option.{option_copied};
+ghost use Rattle.satp_sides.specs.Points.{Stored as StoredOf, view_in};
+ghost use Rattle.satp_sides.specs.Calls.{text_of};
+ghost use Rattle.satp_chain.specs.Chained.{texts_in};
+ghost use Rattle.satp_records.specs.declared.stored.Setup.{Setup};
+ghost use Rattle.satp_log.specs.Logged.{BeginsLog, LogHolds, sessions_in, text_in};
+
+use crate::fault::Misfit;
+use crate::held::{Held, place_of};
+use satp_base::{SessionId, View};
+use satp_chain::Chain;
+use satp_jws::Key;
+use satp_records::{RecordFault, Setup, Stored, decode};
+use std::alloc::Global;
+use std::marker::Model;
+
+/// What the records of a gateway's journal say: who the gateway is, and its sessions in the order of their first records.
+#[derive(Drop)]
+pub struct Log {
+    setup: Setup,
+    key: Key,
+    entries: Vec<Held>,
+    started: u32,
+    accepted: u32,
+}
+
+impl Model for Log {
+    ghost use Rattle.std.specs.Prelude.{◌≡◌};
+    ghost use Rattle.satp_log.specs.Logged.{LogState};
+
+    ghost Value = { LogState };
+
+    ghost view = { λ log. record { setup = log.setup; entries = log.entries.items; started = log.started; accepted = log.accepted } };
+
+    ghost invariant = { λ log. log.key ≡ log.setup.key };
+}
+
+impl Log {
+    /// The log of a journal's first record, which is a `Setup`.
+    ///
+    /// `Refused` comes exactly where no gateway's journal begins so.
+    pub fn begin(alloc: Global, payload: &[u8]) -> Result<Log, Misfit>
+        ensures { BeginsLog payload.now result }
+    {
+        let setup = match decode(alloc, payload) {
+            Ok(Stored::Setup(setup)) => setup,
+            Ok(_) => return Err(Misfit::Refused),
+            Err(fault) => return Err(misfit_of(fault)),
+        };
+        match Key::new(setup.key.bytes()) {
+            Ok(key) => Ok(Log {
+                setup,
+                key,
+                entries: Vec::new(alloc),
+                started: 0,
+                accepted: 0,
+            }),
+            Err(_) => unreachable!(),
+        }
+    }
+
+    /// What the gateway was set up with.
+    pub fn setup(&self) -> &Setup
+        ensures { result.now ≡ self.now.setup }
+    {
+        &self.setup
+    }
+
+    /// The session that began as the one of this index, from 0; none exactly from the number of sessions on.
+    pub fn session(&self, index: u32) -> Option<SessionId>
+        ensures { (setup : Setup) (xs : List StoredOf) → LogHolds self.now setup xs → result ≡ slice_get (sessions_in xs) index }
+    {
+        match self.entries.get(index as usize) {
+            Some(held) => Some(held.session),
+            None => None,
+        }
+    }
+
+    /// What the records say of a session; none exactly where no record names it.
+    pub fn view(&self, session: SessionId) -> Option<View>
+        ensures { (setup : Setup) (xs : List StoredOf) → LogHolds self.now setup xs → result ≡ view_in session xs }
+    {
+        match place_of(self.entries.as_slice(), session) {
+            Some(index) => match self.entries.get(index) {
+                Some(held) => Some(*held.state.view()),
+                None => unreachable!(),
+            },
+            None => None,
+        }
+    }
+
+    /// The text at a place of a session's chain, from 1; none exactly where the records hold no text of that place.
+    pub fn text(&self, session: SessionId, place: u8) -> Option<&[u8]>
+        ensures { (setup : Setup) (xs : List StoredOf) → LogHolds self.now setup xs → option_copied result ≡ text_in session xs place }
+    {
+        match place_of(self.entries.as_slice(), session) {
+            Some(index) => match self.entries.get(index) {
+                Some(held) => text_at(held.state.chain(), place),
+                None => unreachable!(),
+            },
+            None => None,
+        }
+    }
+}
+
+fn text_at(chain: &Chain, place: u8) -> Option<&[u8]>
+    ensures { option_copied result ≡ text_of (texts_in chain.now) place }
+{
+    match chain.entry(place) {
+        Some(signed) => Some(signed.text.bytes()),
+        None => None,
+    }
+}
+
+fn misfit_of(fault: RecordFault) -> Misfit
+    ensures memory { fault ≡ RecordFault.Memory → result ≡ Misfit.Memory }
+    ensures other { fault ≢ RecordFault.Memory → result ≡ Misfit.Refused }
+{
+    match fault {
+        RecordFault::Memory => Misfit::Memory,
+        _ => Misfit::Refused,
+    }
+}

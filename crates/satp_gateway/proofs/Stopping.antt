@@ -117,7 +117,7 @@ module _ (p : Plan) where
                 after = λ has. (
                   stands,
                   appended ok m.trail rests es cut keeps k image
-                  (subst (λ (x : Trail). IsImage x JournalA image) (along (Founded ∷ take k es)) (subst (λ (l : List Event). IsImage (extended t.trail l) JournalA image) front here)),
+                      (subst (λ (x : Trail). IsImage x JournalA image) (along (Founded ∷ take k es)) (subst (λ (l : List Event). IsImage (extended t.trail l) JournalA image) front here)),
                 );
               })
 

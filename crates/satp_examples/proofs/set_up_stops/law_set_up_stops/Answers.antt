@@ -117,7 +117,7 @@ vacant_too_early h =
     let s = h journal_rests in
     let same : stores ++ Founded ∷ [] ≡ s.0 = append_cancel_left opened.trail.events (stores ++ Founded ∷ []) s.0 (ap (λ (t : Trail). t.events) s.1) in
     let at : (n : ℕ) (image : List ℕ) → IsImage (extended opened.trail (take n (stores ++ Founded ∷ []))) JournalA image → IsInFounding plan (take n (stores ++ Founded ∷ [])) image =
-        λ n image left. subst (λ es. IsInFounding plan (take n es) image) (sym same) (s.2 n image (subst (λ es. IsImage (extended opened.trail (take n es)) JournalA image) same left)) in
+    λ n image left. subst (λ es. IsInFounding plan (take n es) image) (sym same) (s.2 n image (subst (λ es. IsImage (extended opened.trail (take n es)) JournalA image) same left)) in
     let rest = (at 4 (1 ∷ 0 ∷ 1 ∷ 100 ∷ 0 ∷ []) (search rules)).before (none_founded stores (tt, (tt, (tt, (tt, tt))))) in
     let bytes = rest.1.bytes in
     absurd cc

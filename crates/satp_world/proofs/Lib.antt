@@ -39,4 +39,8 @@ pub mod RestCheck
 pub mod Replies
 pub mod RunLaw
 pub mod HearLaw
+pub mod Sources
 pub mod RunHear
+pub mod HonestNames
+pub mod HonestLaw
+pub mod HonestRounds

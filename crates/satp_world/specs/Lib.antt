@@ -8,3 +8,4 @@ pub mod Limits
 pub mod Kept
 pub mod Standing
 pub mod Work
+pub mod Honest

@@ -6,6 +6,7 @@
 ghost use Rattle.satp_world.specs.Deal.{LawDeals};
 ghost use Rattle.satp_world.specs.Sessions.{LawSessions, LawStep};
 ghost use Rattle.satp_world.specs.Standing.{BeginningStands, MovesStand, SessionsRun, SessionsRunFromTheFirst};
+ghost use Rattle.satp_world.specs.Honest.{HonestIsTaken};
 ghost use Rattle.satp_world.specs.Work.{HeardRunsMove, OperatorsRunsMove, WorkMoves};
 ghost use Rattle.satp_world.specs.Worlds.{LawSafety};
 ghost use Rattle.satp_world.specs.Examples.{LawEndings};
@@ -98,4 +99,13 @@ pub fn law_work()
     ensures due { WorkMoves }
     ensures operators { OperatorsRunsMove }
     ensures heard { HeardRunsMove }
+{}
+
+/// In every world that moves of both gateways lead to, a text that a network can hand over to its receiver, one of the
+/// bag or an entry of an update there, is refused only where it is a recovery message that is out of date: it tells of a
+/// chain that has grown since, its entry doesn't fit the chain any more, or it says that a round is over of which the
+/// receiver lacks the last message. A message of a chain is never refused, and no honest text for its address, for its
+/// session, for a link, or for want of room.
+pub fn law_honest()
+    ensures taken { HonestIsTaken }
 {}

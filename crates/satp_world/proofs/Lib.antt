@@ -44,3 +44,4 @@ pub mod RunHear
 pub mod HonestNames
 pub mod HonestLaw
 pub mod HonestRounds
+pub mod HistoryLaw

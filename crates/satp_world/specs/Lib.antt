@@ -9,3 +9,4 @@ pub mod Kept
 pub mod Standing
 pub mod Work
 pub mod Honest
+pub mod Histories

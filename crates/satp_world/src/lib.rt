@@ -6,6 +6,7 @@
 ghost use Rattle.satp_world.specs.Deal.{LawDeals};
 ghost use Rattle.satp_world.specs.Sessions.{LawSessions, LawStep};
 ghost use Rattle.satp_world.specs.Standing.{BeginningStands, MovesStand, SessionsRun, SessionsRunFromTheFirst};
+ghost use Rattle.satp_world.specs.Histories.{EventsAreSafe, EventsKeepTotals, EventsReach, EventsRunDeals};
 ghost use Rattle.satp_world.specs.Honest.{HonestIsTaken};
 ghost use Rattle.satp_world.specs.Work.{HeardRunsMove, OperatorsRunsMove, WorkMoves};
 ghost use Rattle.satp_world.specs.Worlds.{LawSafety};
@@ -108,4 +109,15 @@ pub fn law_work()
 /// session, for a link, or for want of room.
 pub fn law_honest()
     ensures taken { HonestIsTaken }
+{}
+
+/// Any list of calls of both gateways leads from such a world to another one: what operators ask, of sessions that begin
+/// those of their gateway's name alone; messages that a network can hand over; and texts that are no message's. Each call
+/// is whole or stops after some of its moves. Along them the deal of each session is a run of the deal machine. So from
+/// ledgers as they were founded both gateways are safe after any such list, and the sums of every asset hold.
+pub fn law_runs()
+    ensures reach { EventsReach }
+    ensures deals { EventsRunDeals }
+    ensures safe { EventsAreSafe }
+    ensures totals { EventsKeepTotals }
 {}

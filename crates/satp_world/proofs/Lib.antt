@@ -45,3 +45,4 @@ pub mod HonestNames
 pub mod HonestLaw
 pub mod HonestRounds
 pub mod HistoryLaw
+pub mod EffectLaw

@@ -10,3 +10,4 @@ pub mod Standing
 pub mod Work
 pub mod Honest
 pub mod Histories
+pub mod Effects

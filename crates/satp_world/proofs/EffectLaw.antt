@@ -26,25 +26,24 @@ use Rattle.satp_recovery.specs.declared.choice.RecoveryFault.{RecoveryFault}
 use Rattle.satp_recovery.specs.declared.choice.Step.{Step}
 use Rattle.satp_recovery.specs.declared.choice.Step.TheVariants.{Adopt, Equal, Resend}
 use Rattle.satp_money.proofs.StepLaw.{step_is}
-use Rattle.satp_sides.specs.Calls.{Call, Starts, Works, Aborts, Rescues, Hears, Refusal, Run, aborted, accepted, adopted, adopted_as, asked, by_tests, ended, heard, heard_as, named, no_reply, own_at, again_reply, last_own, last_unless_whole, recover_text, update_text, replied, rescue_in, rescued, refusal_of, run_of, runs, runs_noted, says, taken, updated, verdict_in}
+use Rattle.satp_sides.specs.Calls.{Call, Starts, Works, Aborts, Rescues, Hears, Refusal, Run, IsHeard, IsOfOwn, aborted, accepted, adopted, adopted_as, asked, by_tests, ended, heard, heard_as, named, no_reply, own_at, again_reply, last_own, last_unless_whole, recover_text, update_text, replied, rescue_in, rescued, refusal_of, run_of, runs, runs_noted, says, taken, updated, verdict_in}
 use Rattle.satp_sides.specs.Due.{Due, due, due_answered, due_by, due_within}
-use Rattle.satp_sides.specs.Moves.{AreMoves}
 use Rattle.satp_sides.specs.Others.{AreOf, session_of}
 use Rattle.satp_sides.specs.Points.{Move, Appends, Acts, Says, Party, Side, Slot, Text, chain_in, is_session, moved, moved_by, slot_in, stored}
 use Rattle.satp_sides.specs.Said.{WasSaid}
 use Rattle.satp_sides.proofs.OthersLaw.{runs-are-of}
 use Rattle.satp_sides.proofs.Records.{is-session, records-apart}
-use Rattle.satp_sides.proofs.SaidLaw.{said-now}
 use Rattle.satp_world.specs.Effects.{AnswersStand, AreSilent, OthersStay, RunsSayTheirAnswers, SaysItsAnswer, Stays}
 use Rattle.satp_world.specs.Effects.SaysItsAnswer.{Answered, Refused, Unanswered}
-use Rattle.satp_world.specs.Histories.{after_moves, call_moves}
+use Rattle.satp_world.specs.Histories.{MayCall, after_moves, call_moves}
 use Rattle.satp_world.specs.Standing.{WorldRun}
 use Rattle.satp_world.specs.Standing.WorldRun.{Rests, Goes}
 use Rattle.satp_world.specs.Worlds.{Gateway, Setting, World, party_at, side_at}
 use Rattle.satp_world.specs.Worlds.Gateway.{A, B}
 use Rattle.satp_world.specs.Worlds.WorldMoves.{By}
-use Rattle.satp_world.proofs.HistoryLaw.{call-goes}
-use Rattle.satp_world.proofs.KeptLaw.{still-said}
+use Rattle.satp_world.proofs.HearLaw.{party-apart}
+use Rattle.satp_world.proofs.KeptLaw.{logs-kept, still-said}
+use Rattle.satp_world.proofs.LogAnswers.{answers-were-said}
 use Rattle.satp_world.proofs.RuleMoves.{get-apart}
 
 -- ---- other sessions
@@ -190,21 +189,6 @@ runs-say-their-answers p side call = tests-say (refusal_of p side.records call) 
 
 -- ---- where it stands
 
--- a text that is said last was said by the records after it
-last-said : (p : Party) (side : Side) (bag : List Text) (before : List Move) (t : Text) → AreMoves p side bag (before ++ Says t ∷ []) → WasSaid p (moved_by side (before ++ Says t ∷ [])).records t
-last-said p side bag [] t h = said-now p side.records bag t h.0
-last-said p side bag (Appends x ∷ ms) t h = last-said p (moved side (Appends x)) bag ms t h.1
-last-said p side bag (Acts s op terms ∷ ms) t h = last-said p (moved side (Acts s op terms)) bag ms t h.1
-last-said p side bag (Says u ∷ ms) t h = last-said p side (u ∷ bag) ms t h.1
-
-run-said : (p : Party) (side : Side) (bag : List Text) (run : Run) → SaysItsAnswer run → AreMoves p side bag run.moves → (t : Text) → run.answer ≡ Some (Ok (Some t)) → WasSaid p (moved_by side run.moves).records t
-run-said p side bag run (Refused r ms e) h t is = absurd (cc (e, is))
-run-said p side bag run (Unanswered ms e) h t is = absurd (cc (e, is))
-run-said p side bag run (Answered before reply k ms e) h t is =
-    let same : reply ≡ Some t = cc (e, is) in
-    let moves : run.moves ≡ before ++ Says t ∷ [] = ms ∙ ap (λ o. before ++ says o) same in
-    subst (λ xs. WasSaid p (moved_by side xs).records t) (sym moves) (last-said p side bag before t (subst (AreMoves p side bag) moves h))
-
 said-later : (st : Setting) (g : Gateway) (t : Text) (w v : World) → WorldRun st w v → WasSaid (party_at st g) (side_at w g).records t → WasSaid (party_at st g) (side_at v g).records t
 said-later st g t w _ Rests z = z
 said-later st A t w _ (Goes u _ run (By A side bag m)) z = still-said (party_at st A) u.a u.bag side bag m t (said-later st A t w u run z)
@@ -216,8 +200,16 @@ side-after : (w : World) (g : Gateway) (ms : List Move) → side_at (after_moves
 side-after w A ms = refl
 side-after w B ms = refl
 
+heard-so : (st : Setting) (w : World) (g : Gateway) (call : Call) → MayCall st w g call → IsHeard st.key call × IsOfOwn (party_at st g) call
+heard-so st w g (Hears m t e) (heard, d) = (heard, tt)
+heard-so st w g (Starts s terms) own = (tt, own)
+heard-so st w g (Works s) own = (tt, tt)
+heard-so st w g (Aborts s) own = (tt, tt)
+heard-so st w g (Rescues s) own = (tt, tt)
+
 pub answers-stand : AnswersStand
 answers-stand st a b w r g call may t is v run =
     let p = party_at st g in
-    let now = run-said p (side_at w g) w.bag (run_of p (side_at w g) call) (runs-say-their-answers p (side_at w g) call) (call-goes st a b w r g call may) t is in
+    let (heard, own) = heard-so st w g call may in
+    let now = answers-were-said p (party-apart st g) (side_at w g) (logs-kept st a b w r g) call heard own t is in
     said-later st g t _ v run (subst (λ (x : Side). WasSaid p x.records t) (sym (side-after w g (call_moves st w g call))) now)

@@ -27,7 +27,7 @@ moves-run st w v r B [] h = r
 moves-run st w v r A (m ∷ ms) h = moves-run st w (with_side v A (moved v.a m) (said v.bag m)) (Goes v _ r (By A _ _ (Moves m h.0))) A ms h.1
 moves-run st w v r B (m ∷ ms) h = moves-run st w (with_side v B (moved v.b m) (said v.bag m)) (Goes v _ r (By B _ _ (Moves m h.0))) B ms h.1
 
-pub call-goes : (st : Setting) (a b : Founding) (w : World) → Reached st a b w → (g : Gateway) (call : Call) → MayCall st w g call → AreMoves (party_at st g) (side_at w g) w.bag (call_moves st w g call)
+call-goes : (st : Setting) (a b : Founding) (w : World) → Reached st a b w → (g : Gateway) (call : Call) → MayCall st w g call → AreMoves (party_at st g) (side_at w g) w.bag (call_moves st w g call)
 call-goes st a b w r g (Hears m t e) (heard, d) = (heard-run st a b w r g m t e heard d).moves
 call-goes st a b w r g (Starts s terms) own = (operators-run st a b w r g (Starts s terms) tt own).moves
 call-goes st a b w r g (Works s) own = (operators-run st a b w r g (Works s) tt tt).moves

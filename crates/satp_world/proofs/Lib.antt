@@ -45,4 +45,5 @@ pub mod HonestNames
 pub mod HonestLaw
 pub mod HonestRounds
 pub mod HistoryLaw
+pub mod LogAnswers
 pub mod EffectLaw

@@ -51,7 +51,7 @@ use Rattle.satp_world.proofs.RunLaw.{named-by, refused-goes, rescue-goes, runs-n
 use Rattle.satp_world.proofs.Sources.{IsChains, alone}
 use Rattle.satp_world.proofs.WorkLaw.{IsSideOf}
 
-same-is : (x y : Name) → same_name x y ≡ true → x ≡ y
+pub same-is : (x y : Name) → same_name x y ≡ true → x ≡ y
 same-is x y h = exact.same_text x y (same_text _ _ (sym h))
 
 -- ---- what the tests say
@@ -61,7 +61,7 @@ not-both true true e = (refl, refl)
 not-both true false e = absurd (cc e)
 not-both false y e = absurd (cc e)
 
-addressed : (p : Party) (m : Message) → is_misaddressed p m ≡ false → (m.receiver ≡ p.name) × (m.sender ≡ p.peer)
+pub addressed : (p : Party) (m : Message) → is_misaddressed p m ≡ false → (m.receiver ≡ p.name) × (m.sender ≡ p.peer)
 addressed p m e = let (x, y) = not-both (equal_names m.receiver p.name) (equal_names m.sender p.peer) e in (equal_name m.receiver p.name x, equal_name m.sender p.peer y)
 
 strange-by : (own peer : Bool) (o : Option Slot) → (if own then negate (is_some o) else negate peer) ≡ false → o ≡ None → peer ≡ true
@@ -70,10 +70,10 @@ strange-by true peer (Some l) e h = absurd (cc h)
 strange-by false true o e h = refl
 strange-by false false o e h = absurd (cc e)
 
-of-peer : (p : Party) (xs : List Stored) (s : SessionId) → is_strange p xs s ≡ false → slot_in s xs ≡ None → s.gateway ≡ p.peer
+pub of-peer : (p : Party) (xs : List Stored) (s : SessionId) → is_strange p xs s ≡ false → slot_in s xs ≡ None → s.gateway ≡ p.peer
 of-peer p xs s e none = equal_name s.gateway p.peer (strange-by (equal_names s.gateway p.name) (equal_names s.gateway p.peer) (slot_in s xs) e none)
 
-begins-not : (o : Option Slot) (takes full : Bool) → both (both (negate (is_some o)) takes) full ≡ false → o ≡ None → takes ≡ true → full ≡ false
+pub begins-not : (o : Option Slot) (takes full : Bool) → both (both (negate (is_some o)) takes) full ≡ false → o ≡ None → takes ≡ true → full ≡ false
 begins-not None true full e h t = e
 begins-not None false full e h t = absurd (cc t)
 begins-not (Some l) takes full e h t = absurd (cc h)
@@ -146,11 +146,11 @@ module _ (st : Setting) (a b : Founding) (w : World) (r : Reached st a b w) (g :
 
 -- ---- recovery, kind by kind
 
-drop-nil : (n : ℕ) → ◌≡◌ {A = List Text} (drop n []) []
+pub drop-nil : (n : ℕ) → ◌≡◌ {A = List Text} (drop n []) []
 drop-nil zero = refl
 drop-nil (suc n) = refl
 
-near-by : (h : Head) (n : ℕ) (last : Link) (x : Result ℕ RecoveryFault) → Answers h n last x → fault_in x ≡ None → h.length ≤ n + 1
+pub near-by : (h : Head) (n : ℕ) (last : Link) (x : Result ℕ RecoveryFault) → Answers h n last x → fault_in x ≡ None → h.length ≤ n + 1
 near-by h n last _ (Answered_apart f k) e = absurd (cc e)
 near-by h n last _ (OneMore k) e = omega (arith, k)
 near-by h n last _ (AsMany k l) e = omega (arith, k)
@@ -204,16 +204,16 @@ module _ (st : Setting) (a b : Founding) (w : World) (r : Reached st a b w) (g :
 
 -- ---- an entry that is adopted
 
-both-true : (x y : Bool) → both x y ≡ true → (x ≡ true) × (y ≡ true)
+pub both-true : (x y : Bool) → both x y ≡ true → (x ≡ true) × (y ≡ true)
 both-true true true e = (refl, refl)
 both-true true false e = absurd (cc e)
 both-true false y e = absurd (cc e)
 
-not-true : (x : Bool) → negate x ≡ true → x ≡ false
+pub not-true : (x : Bool) → negate x ≡ true → x ≡ false
 not-true true e = absurd (cc e)
 not-true false e = refl
 
-next-is : (v : Verdict) → is_next v ≡ true → v ≡ verdict.Next
+pub next-is : (v : Verdict) → is_next v ≡ true → v ≡ verdict.Next
 next-is verdict.Next e = refl
 next-is (verdict.Again n) e = absurd (cc e)
 next-is (verdict.Gap n) e = absurd (cc e)
@@ -222,7 +222,7 @@ next-is (verdict.WrongPrevious link) e = absurd (cc e)
 next-is verdict.WrongSender e = absurd (cc e)
 next-is (verdict.OffTale n) e = absurd (cc e)
 
-holds-by : (x : Bool) (f : Refusal) → test (negate x) f ≡ None → x ≡ true
+pub holds-by : (x : Bool) (f : Refusal) → test (negate x) f ≡ None → x ≡ true
 holds-by true f e = refl
 holds-by false f e = absurd (cc e)
 

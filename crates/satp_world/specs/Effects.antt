@@ -3,7 +3,8 @@ use Rattle.std.specs.Prelude.{◌≡◌, ◌≢◌, List, [], ◌∷◌, ◌++�
 use Rattle.std.specs.FinMap.{get}
 use Rattle.satp_base.specs.Founding.{Founding}
 use Rattle.satp_base.specs.declared.session.SessionId.{SessionId}
-use Rattle.satp_sides.specs.Calls.{Call, Refusal, Run, run_of, says}
+use Rattle.satp_sides.specs.Calls.{Call, IsHeard, IsOfOwn, Refusal, Run, run_of, says}
+use Rattle.satp_sides.specs.Logs.{IsLog}
 use Rattle.satp_sides.specs.Others.{session_of}
 use Rattle.satp_sides.specs.Points.{Move, Appends, Acts, Says, Party, Side, Text, moved_by, records_of}
 use Rattle.satp_sides.specs.Said.{WasSaid}
@@ -37,6 +38,12 @@ pub data SaysItsAnswer (run : Run) : Type 0 where
 
 abbrev pub RunsSayTheirAnswers : Type 0
 RunsSayTheirAnswers = (p : Party) (side : Side) (call : Call) → SaysItsAnswer (run_of p side call)
+
+-- Over a log, whoever the peer is and whatever the ledger answers, a text that a call answers was said, by the records after it.
+abbrev pub AnswersWereSaid : Type 0
+AnswersWereSaid =
+    (p : Party) → p.name ≢ p.peer → (side : Side) → IsLog p side.records → (call : Call) → IsHeard p.key call → IsOfOwn p call
+    → (t : Text) → (run_of p side call).answer ≡ Some (Ok (Some t)) → WasSaid p (moved_by side (run_of p side call).moves).records t
 
 -- In a reached world a text that a call answers was said, by the gateway's records after it and ever after, whatever moves come.
 abbrev pub AnswersStand : Type 0

@@ -6,7 +6,7 @@
 ghost use Rattle.satp_world.specs.Deal.{LawDeals};
 ghost use Rattle.satp_world.specs.Sessions.{LawSessions, LawStep};
 ghost use Rattle.satp_world.specs.Standing.{BeginningStands, MovesStand, SessionsRun, SessionsRunFromTheFirst};
-ghost use Rattle.satp_world.specs.Effects.{AnswersStand, OthersStay, RunsSayTheirAnswers};
+ghost use Rattle.satp_world.specs.Effects.{AnswersStand, AnswersWereSaid, OthersStay, RunsSayTheirAnswers};
 ghost use Rattle.satp_world.specs.Histories.{EventsAreSafe, EventsKeepTotals, EventsReach, EventsRunDeals};
 ghost use Rattle.satp_world.specs.Honest.{HonestIsTaken};
 ghost use Rattle.satp_world.specs.Work.{HeardRunsMove, OperatorsRunsMove, WorkMoves};
@@ -124,11 +124,13 @@ pub fn law_runs()
 {}
 
 /// What holds of each call, on any side: the records and the entry of every other session stay, also where the call is
-/// stopped; and it says its answer alone, after all else that it does. In a world that moves of both gateways lead to, a
-/// text that it answers stands in the gateway's records after it and ever after: it is one of a chain, or a recovery
-/// message of the first texts of one, or says that the gateway knows nothing of a session.
+/// stopped; and it says its answer alone, after all else that it does. Where the records are a log, whoever the peer is
+/// and whatever the ledger answers, a text that it answers was said, by the records after the call: it is one of a chain,
+/// or a recovery message of the first texts of one, or says that the gateway knows nothing of a session. In a world that
+/// moves of both gateways lead to it is so ever after.
 pub fn law_calls()
     ensures others { OthersStay }
     ensures says { RunsSayTheirAnswers }
+    ensures said { AnswersWereSaid }
     ensures stands { AnswersStand }
 {}

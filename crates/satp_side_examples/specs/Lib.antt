@@ -6,3 +6,4 @@ pub mod Recovery
 pub mod Journals
 pub mod Moving
 pub mod Tested
+pub mod Passing

@@ -5,7 +5,7 @@ use Rattle.satp_base.specs.Forms.{IsLink, is_entry}
 use Rattle.satp_base.specs.LedgerRule.{entry_of, operation}
 use Rattle.satp_base.specs.Money.{Book}
 use Rattle.satp_base.specs.Signatures.{own}
-use Rattle.satp_base.specs.declared.ledger.Entry.TheVariants.{Absent, Minted}
+use Rattle.satp_base.specs.declared.ledger.Entry.TheVariants.{Absent, Locked, Minted}
 use Rattle.satp_base.specs.declared.ledger.LedgerOp.TheVariants.{Lock, Burn, Assign}
 use Rattle.satp_base.specs.declared.message.Body.{Body}
 use Rattle.satp_base.specs.declared.message.Body.TheVariants.{Chain, Recover, Update}
@@ -18,9 +18,9 @@ use Rattle.satp_base.specs.declared.record.Cause.TheVariants.{MintCapped}
 use Rattle.satp_base.specs.declared.record.Rec.TheVariants.{Did, Chose}
 use Rattle.satp_base.specs.declared.record.Way.TheVariants.{Back}
 use Rattle.satp_sides.specs.Calls.{IsEntryOf}
-use Rattle.satp_sides.specs.Moves.{AreMoves, Delivered, IsMove, Sayable}
-use Rattle.satp_sides.specs.Points.{Appends, Acts, Party, Text}
-use Rattle.satp_side_examples.specs.Answers.{beta_hears}
+use Rattle.satp_sides.specs.Moves.{Among, AreMoves, Delivered, IsMove, Sayable, SideMoves}
+use Rattle.satp_sides.specs.Points.{Appends, Acts, Party, Side, Text}
+use Rattle.satp_side_examples.specs.Answers.{beta_hears, receipt}
 use Rattle.satp_side_examples.specs.Samples.{alpha_1, alpha_records, at_alpha, at_beta, beta, beta_records, chain_message, from_alpha, from_beta, note, side}
 
 -- ---- texts
@@ -43,6 +43,8 @@ pub record TextsThatAreSaid : Type 0 where
       → Sayable (at_beta key) [] (own key (from_alpha alpha_1 (Recover 1 last)) ∷ []) (own key (from_beta alpha_1 (Update 0 [])))
   -- of its own place
   pub own_text : (key : List ℕ) (terms : Terms) (text : ℕ → Text) → Sayable (at_beta key) (beta_records terms text) [] (text 10)
+  -- an answer that isn't stored isn't said
+  pub not_unstored : (key : List ℕ) (bag : List Text) (terms : Terms) (text : ℕ → Text) → ¬ Sayable (at_beta key) (take 1 (beta_records terms text)) bag (receipt key (text 1))
   -- at first nothing is said by anybody
   pub not_unasked : (p : Party) (t : Text) → ¬ Sayable p [] [] t
 
@@ -69,6 +71,13 @@ pub record MovesMade : Type 0 where
   pub not_under_others :
       (key : List ℕ) (book : Book) (bag : List Text) (terms other : Terms) (text : ℕ → Text) → ¬ other ≡ terms
       → ¬ IsMove (at_alpha key) (side (take 4 (alpha_records terms text)) book) bag (Acts alpha_1 Lock other)
+  -- what the records say was done isn't asked for again; where a stop came before that record it is, and nothing changes
+  pub not_twice :
+      (key : List ℕ) (book : Book) (bag : List Text) (terms : Terms) (text : ℕ → Text)
+      → ¬ IsMove (at_alpha key) (side (take 5 (alpha_records terms text)) book) bag (Acts alpha_1 Lock terms)
+  pub after_a_stop :
+      (key : List ℕ) (book : Book) (bag : List Text) (terms : Terms) (text : ℕ → Text) → entry_of book.entries alpha_1 ≡ Locked
+      → IsMove (at_alpha key) (side (take 4 (alpha_records terms text)) book) bag (Acts alpha_1 Lock terms) × ((operation book Lock alpha_1 terms).after ≡ book)
   -- that it was done is stored after it was done
   pub not_undone :
       (key : List ℕ) (book : Book) (bag : List Text) (terms : Terms) (text : ℕ → Text) → entry_of book.entries alpha_1 ≡ Absent
@@ -77,3 +86,5 @@ pub record MovesMade : Type 0 where
   pub not_unrefused :
       (key : List ℕ) (book : Book) (bag : List Text) (terms : Terms) (text : ℕ → Text) → entry_of book.entries alpha_1 ≡ Minted
       → ¬ IsMove (at_beta key) (side (take 7 (beta_records terms text)) book) bag (Appends (note (Chose (Back MintCapped))))
+  -- no move takes a text from the bag
+  pub not_forgotten : (p : Party) (old : Side) (bag : List Text) (new : Side) (more : List Text) (t : Text) → SideMoves p old bag new more → Among t bag → Among t more

@@ -7,6 +7,7 @@ ghost use Rattle.satp_side_examples.specs.Answers.{Addresses, FirstMessages, Mes
 ghost use Rattle.satp_side_examples.specs.Ends.{AbortsAsked, Beginnings, WorkAsked};
 ghost use Rattle.satp_side_examples.specs.Journals.{JournalsOfASession, RecordsCaseByCase, RecordsThatMayNotCome};
 ghost use Rattle.satp_side_examples.specs.Moving.{EntriesRead, MovesMade, TextsThatAreSaid, TextsThatCome};
+ghost use Rattle.satp_side_examples.specs.Passing.{CallsLeaveAlone, EventsThatHappen, TextsOutOfDate};
 ghost use Rattle.satp_side_examples.specs.Recovery.{LostMessages, RoundsAnswered, RoundsStarted, SuccessesHeard, UpdatesHeard};
 ghost use Rattle.satp_side_examples.specs.Tested.{DueIsStored, LogsNameSessions, RunsAreAnswered};
 ghost use Rattle.satp_side_examples.specs.Work.{LocksAndBurns, Mints};
@@ -61,4 +62,12 @@ pub fn law_tested()
     ensures named { LogsNameSessions }
     ensures answered { RunsAreAnswered }
     ensures stored { DueIsStored }
+{}
+
+/// What may happen to two gateways, an honest text that is refused since it comes too early, and what a call says and
+/// leaves alone.
+pub fn law_passing()
+    ensures happen { EventsThatHappen }
+    ensures outdated { TextsOutOfDate }
+    ensures alone { CallsLeaveAlone }
 {}

@@ -124,13 +124,37 @@ is-again chain sender place previous kind text n e =
 
 -- ---- a message is stored
 
+module _ (p : Party) (s : SessionId) (side : Side) where
+  pub took-may : (l : Slot) (q : Part) (t : Text) → SlotAt p s side l → RoleRule l.view.role l.view (Took (part_kind q)) → IsPart q → t ≡ next_text s (recipient_at p l.view.role) p.key l.texts q → MayCome p side.records (stored s (Took (part_kind q)) t)
+  took-may l q t at rule f text =
+      let there = subst (λ ts. MayCome p side.records (stored s (Took (part_kind q)) (next_text s (recipient_at p l.view.role) p.key ts q))) at.texts (Takes s l.view q at.named rule f) in
+      subst (λ u. MayCome p side.records (stored s (Took (part_kind q)) u)) (sym text) there
+
+  -- the first record of a session of the peer
+  pub record MayBegin (terms : Terms) (t : Text) : Type 0 where
+    pub may : MayCome p side.records (stored s (Began Recipient terms) t)
+    pub slot : SlotAt p s (moved side (Appends (stored s (Began Recipient terms) t))) (slot (begin Recipient terms) (t ∷ []))
+
+  pub begin-may : (terms : Terms) (t : Text) → IsLog p side.records → s.gateway ≡ p.peer → view_in s side.records ≡ None → is_full Recipient side.records ≡ false → t ≡ next_text s p.name p.key [] (part.Proposal terms) → MayBegin terms t
+  begin-may terms t log gate none room text =
+      let unnamed = named-by p s side.records log none in
+      let first = Accepts s terms gate unnamed (leb-false _ _ room) in
+      let may = subst (λ u. MayCome p side.records (stored s (Began Recipient terms) u)) (sym text) first in
+      let x = stored s (Began Recipient terms) t in
+      record {
+        may = may;
+        slot = record {
+          log = (log-grows p).more side.records x log may;
+          named = view-first s side.records x (session-self s) unnamed;
+          texts = chain-here s side.records x (session-self s) ∙ ap (λ ts. ts ++ t ∷ []) (chain-none s side.records unnamed);
+        };
+      }
+
 module _ (p : Party) (s : SessionId) (side : Side) (bag : List Text) where
   took-stores : (l : Slot) (q : Part) (t : Text) → SlotAt p s side l → RoleRule l.view.role l.view (Took (part_kind q)) → IsPart q → Delivered p.key bag t → t ≡ next_text s (recipient_at p l.view.role) p.key l.texts q
       → Stores p s side bag l (Took (part_kind q)) t
   took-stores l q t at rule f d text =
-      let first = Takes s l.view q at.named rule f in
-      let there = subst (λ ts. MayCome p side.records (stored s (Took (part_kind q)) (next_text s (recipient_at p l.view.role) p.key ts q))) at.texts first in
-      let may = subst (λ u. MayCome p side.records (stored s (Took (part_kind q)) u)) (sym text) there in
+      let may = took-may p s side l q t at rule f text in
       record { move = record { may_come = may; arrives = d; fits = λ v e. tt }; slot = slot-more p s side l (Took (part_kind q)) t at may }
 
   record Begins (terms : Terms) (t : Text) : Type 0 where
@@ -139,18 +163,8 @@ module _ (p : Party) (s : SessionId) (side : Side) (bag : List Text) where
 
   begin-stores : (terms : Terms) (t : Text) → IsLog p side.records → s.gateway ≡ p.peer → view_in s side.records ≡ None → is_full Recipient side.records ≡ false → Delivered p.key bag t → t ≡ next_text s p.name p.key [] (part.Proposal terms) → Begins terms t
   begin-stores terms t log gate none room d text =
-      let unnamed = named-by p s side.records log none in
-      let first = Accepts s terms gate unnamed (leb-false _ _ room) in
-      let may = subst (λ u. MayCome p side.records (stored s (Began Recipient terms) u)) (sym text) first in
-      let x = stored s (Began Recipient terms) t in
-      record {
-        move = record { may_come = may; arrives = d; fits = λ v e. tt };
-        slot = record {
-          log = (log-grows p).more side.records x log may;
-          named = view-first s side.records x (session-self s) unnamed;
-          texts = chain-here s side.records x (session-self s) ∙ ap (λ ts. ts ++ t ∷ []) (chain-none s side.records unnamed);
-        };
-      }
+      let k = begin-may p s side terms t log gate none room text in
+      record { move = record { may_come = k.may; arrives = d; fits = λ v e. tt }; slot = k.slot }
 
 -- the rule takes what goes on with the tale and is of the other side
 took-free : (role : Role) (v : View) (k : Kind) → maker k ≡ Some (other role) → IsTale (v.tale ++ k ∷ []) → RoleRule role v (Took k)
@@ -168,6 +182,35 @@ proposal-of (part.Plain k) f e = absurd (not-plain k f e)
 
 -- ---- what is heard of the chain
 
+module _ (p : Party) (differ : p.name ≡ p.peer → ⊥) (s : SessionId) (side : Side) where
+  -- a text that is the next is one that the rule allows and the chain's next
+  pub next-taken : (l : Slot) (m : Message) (t : Text) (place : ℕ) (previous : Link) (q : Part) → SlotAt p s side l → m.session ≡ s → m.body ≡ body.Chain place previous q
+      → t ≡ own p.key m → m.receiver ≡ p.name → m.sender ≡ p.peer → place_verdict (chain_of p s (Some l)) m.sender place previous (part_kind q) t ≡ verdict.Next
+      → RoleRule l.view.role l.view (Took (part_kind q)) × (t ≡ next_text s (recipient_at p l.view.role) p.key l.texts q)
+  next-taken l m t place previous q at session is text receiver sender next =
+      let h = taken (chain_of p s (Some l)) m.sender place previous q t next in
+      let of = log-sessions p side.records at.log s l.view at.named in
+      let tale = reached-tale l.view.role l.view of.reached in
+      let turn : role_at place ≡ other l.view.role = peer-place p differ s l.view.role (role_at place) of.role (sym h.sender_is ∙ sender) in
+      let to : m.receiver ≡ name_of s (recipient_at p l.view.role) (other (role_at place)) = receiver ∙ sym (taker-me p differ s l.view.role of.role) ∙ ap (name_of s (recipient_at p l.view.role)) (sym (ap other turn ∙ twice l.view.role)) in
+      let same = next-is-text p.key s (recipient_at p l.view.role) l.texts m t place previous q session is h.place_is h.previous_is h.sender_is to text in
+      let longer = extends-tale l.view.tale (part_kind q) tale h.goes in
+      let long : length l.texts ≡ length l.view.tale = ap length (sym at.texts) ∙ chain-length s _ p.key l.view (chain_in s side.records) of.chain in
+      let by : maker (part_kind q) ≡ Some (other l.view.role) = maker-at l.view.tale (part_kind q) tale longer ∙ ap (λ n. Some (role_at n)) (ap (λ n. n + 1) (sym long) ∙ sym h.place_is) ∙ ap Some turn in
+      (took-free l.view.role l.view (part_kind q) by longer, same)
+
+  -- and one that is the first is a proposal
+  pub first-taken : (m : Message) (t : Text) (place : ℕ) (previous : Link) (q : Part) → m.session ≡ s → m.body ≡ body.Chain place previous q → IsPart q → t ≡ own p.key m → m.receiver ≡ p.name
+      → place_verdict (chain_of p s None) m.sender place previous (part_kind q) t ≡ verdict.Next → (terms : Terms) × (q ≡ part.Proposal terms) × (t ≡ next_text s p.name p.key [] (part.Proposal terms))
+  first-taken m t place previous q session is f text receiver next =
+      let h = taken (chain_of p s None) m.sender place previous q t next in
+      let one : place ≡ 1 = h.place_is in
+      let to : m.receiver ≡ name_of s p.name (other (role_at place)) = receiver ∙ sym (ap (λ n. name_of s p.name (other (role_at n))) one) in
+      let same = next-is-text p.key s p.name [] m t place previous q session is h.place_is h.previous_is h.sender_is to text in
+      let kind : part_kind q ≡ TransferProposal = kind_eq-is _ _ (extends-by [] (part_kind q) (tale-is [] here) (extends-tale [] (part_kind q) (tale-is [] here) h.goes)) in
+      let (terms, proposal) = proposal-of q f kind in
+      (terms, proposal, same ∙ ap (next_text s p.name p.key []) proposal)
+
 module _ (st : Setting) (a b : Founding) (g : Gateway) (s : SessionId) (side : Side) (bag : List Text) (k : IsSideOf st a b g side bag) (log : IsLog (party_at st g) side.records) where
   abbrev me : Party
   me = party_at st g
@@ -178,16 +221,8 @@ module _ (st : Setting) (a b : Founding) (g : Gateway) (s : SessionId) (side : S
       → RunGoes (party_at st g) side bag (take_run (party_at st g) side s (Some l) q t)
   take-named l m t place previous q at session is f text receiver sender d next =
       let p = party_at st g in
-      let h = taken (chain_of p s (Some l)) m.sender place previous q t next in
-      let of = log-sessions p side.records at.log s l.view at.named in
-      let tale = reached-tale l.view.role l.view of.reached in
-      let turn : role_at place ≡ other l.view.role = peer-place p (party-apart st g) s l.view.role (role_at place) of.role (sym h.sender_is ∙ sender) in
-      let to : m.receiver ≡ name_of s (recipient_at p l.view.role) (other (role_at place)) = receiver ∙ sym (taker-me p (party-apart st g) s l.view.role of.role) ∙ ap (name_of s (recipient_at p l.view.role)) (sym (ap other turn ∙ twice l.view.role)) in
-      let same = next-is-text st.key s (recipient_at p l.view.role) l.texts m t place previous q session is h.place_is h.previous_is h.sender_is to text in
-      let longer = extends-tale l.view.tale (part_kind q) tale h.goes in
-      let long : length l.texts ≡ length l.view.tale = ap length (sym at.texts) ∙ chain-length s _ st.key l.view (chain_in s side.records) of.chain in
-      let by : maker (part_kind q) ≡ Some (other l.view.role) = maker-at l.view.tale (part_kind q) tale longer ∙ ap (λ n. Some (role_at n)) (ap (λ n. n + 1) (sym long) ∙ sym h.place_is) ∙ ap Some turn in
-      let stores = took-stores p s side bag l q t at (took-free l.view.role l.view (part_kind q) by longer) f d same in
+      let (rule, same) = next-taken p (party-apart st g) s side l m t place previous q at session is text receiver sender next in
+      let stores = took-stores p s side bag l q t at rule f d same in
       runs-one st a b g s side bag (stored s (Took (part_kind q)) t) (noted l s (Took (part_kind q)) t) last_own k stores.move stores.slot (λ side' l' k' at' r few u e. last-own-says p s side' bag l' at' u e)
 
   pub take-first : (m : Message) (t : Text) (place : ℕ) (previous : Link) (q : Part) → view_in s side.records ≡ None → s.gateway ≡ (party_at st g).peer → is_full Recipient side.records ≡ false → m.session ≡ s → m.body ≡ body.Chain place previous q → IsPart q
@@ -196,12 +231,7 @@ module _ (st : Setting) (a b : Founding) (g : Gateway) (s : SessionId) (side : S
       → RunGoes (party_at st g) side bag (take_run (party_at st g) side s None q t)
   take-first m t place previous q none gate room session is f text receiver d next =
       let p = party_at st g in
-      let h = taken (chain_of p s None) m.sender place previous q t next in
-      let one : place ≡ 1 = h.place_is in
-      let to : m.receiver ≡ name_of s p.name (other (role_at place)) = receiver ∙ sym (ap (λ n. name_of s p.name (other (role_at n))) one) in
-      let same = next-is-text st.key s p.name [] m t place previous q session is h.place_is h.previous_is h.sender_is to text in
-      let kind : part_kind q ≡ TransferProposal = kind_eq-is _ _ (extends-by [] (part_kind q) (tale-is [] here) (extends-tale [] (part_kind q) (tale-is [] here) h.goes)) in
-      let (terms, proposal) = proposal-of q f kind in
-      let begins = begin-stores p s side bag terms t log gate none room d (same ∙ ap (next_text s p.name st.key []) proposal) in
+      let (terms, proposal, same) = first-taken p (party-apart st g) s side m t place previous q session is f text receiver next in
+      let begins = begin-stores p s side bag terms t log gate none room d same in
       subst (λ x. RunGoes p side bag (take_run p side s None x t)) (sym proposal)
       (runs-one st a b g s side bag (stored s (Began Recipient terms) t) (slot (begin Recipient terms) (t ∷ [])) last_own k begins.move begins.slot (λ side' l' k' at' r few u e. last-own-says p s side' bag l' at' u e))

@@ -40,7 +40,7 @@ more-records p side bag _ _ (Moves (Acts s op terms) m) = ([], sym (append-nil s
 more-records p side bag _ _ (Moves (Says t) m) = ([], sym (append-nil side.records))
 more-records p side bag _ _ Stops = ([], sym (append-nil side.records))
 
-still-said : (p : Party) (side : Side) (bag : List Text) (new : Side) (more : List Text) → SideMoves p side bag new more → (t : Text) → WasSaid p side.records t → WasSaid p new.records t
+pub still-said : (p : Party) (side : Side) (bag : List Text) (new : Side) (more : List Text) → SideMoves p side bag new more → (t : Text) → WasSaid p side.records t → WasSaid p new.records t
 still-said p side bag new more m t z = let (ys, e) = more-records p side bag new more m in subst (λ xs. WasSaid p xs t) (sym e) (said-kept p side.records ys t z)
 
 -- a text in the bag is new, and said by this side, or was there

@@ -39,4 +39,11 @@ pub mod RestCheck
 pub mod Replies
 pub mod RunLaw
 pub mod HearLaw
+pub mod Sources
 pub mod RunHear
+pub mod HonestNames
+pub mod HonestLaw
+pub mod HonestRounds
+pub mod HistoryLaw
+pub mod LogAnswers
+pub mod EffectLaw

@@ -111,7 +111,7 @@ not_other Recipient h = cc h
 some_role : (a b : Role) → Some a ≡ Some b → a ≡ b
 some_role a b e = cc e
 
-no-parts : (parts : List Part) → [] ≡ map part_kind parts → parts ≡ []
+pub no-parts : (parts : List Part) → [] ≡ map part_kind parts → parts ≡ []
 no-parts [] e = refl
 no-parts (p ∷ parts) e = absurd (cc e)
 

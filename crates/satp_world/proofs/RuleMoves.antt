@@ -103,8 +103,11 @@ made-moves role v e peer k (Answered op a d x) = elim (after-shape op a (Made k)
 made-moves Origin v e peer k (Free o) = absurd o
 made-moves Recipient v e peer k (Free o) = absurd o
 
+pub get-apart : (b : Book) (op : LedgerOp) (t : SessionId) (terms : Terms) (s : SessionId) → is_session s t ≡ false → get (moved b op t terms).entries s ≡ get b.entries s
+get-apart b op t terms s n = get-insert sessions_total b.entries t (record { entry = result_of op; terms = terms_of b.entries t terms }) s ∙ ap (λ x. cond x (Some (record { entry = result_of op; terms = terms_of b.entries t terms })) (get b.entries s)) n
+
 moved-apart : (b : Book) (op : LedgerOp) (t : SessionId) (terms : Terms) (s : SessionId) → is_session s t ≡ false → entry_of (moved b op t terms).entries s ≡ entry_of b.entries s
-moved-apart b op t terms s n = ap (λ o. option_map_or (λ (k : LedgerEntry). k.entry) o Absent) (get-insert sessions_total b.entries t (record { entry = result_of op; terms = terms_of b.entries t terms }) s ∙ ap (λ x. cond x (Some (record { entry = result_of op; terms = terms_of b.entries t terms })) (get b.entries s)) n)
+moved-apart b op t terms s n = ap (λ o. option_map_or (λ (k : LedgerEntry). k.entry) o Absent) (get-apart b op t terms s n)
 
 -- an operation leaves the entries of other sessions
 pub entry-apart : (b : Book) (op : LedgerOp) (t : SessionId) (terms : Terms) (a : Answer) (new : Book) (s : SessionId) → is_session s t ≡ false → LedgerRule b op t terms a new → entry_of new.entries s ≡ entry_of b.entries s

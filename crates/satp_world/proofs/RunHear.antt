@@ -1,6 +1,6 @@
 -- The moves of a gateway that hears a message of its peer, kind by kind.
 use Rattle.std.proofs.Common.{◌≡◌, ℕ, zero, suc, ◌+◌, ◌-◌, ◌≤◌, Bool, true, false, List, [], ◌∷◌, length, Option, Some, None, Result, Ok, Err, refl, sym, ap, subst, ◌∙◌, arith, if◌then◌else◌}
-use Rattle.std.specs.Prelude.{drop, is_some, slice_get, take}
+use Rattle.std.specs.Prelude.{drop, is_some}
 use Rattle.std.proofs.lemmas.Bool.{leb-true}
 use Rattle.satp_base.specs.Canonical.{part_kind}
 use Rattle.satp_base.specs.Chains.{head_of, name_of, role_at}
@@ -23,16 +23,13 @@ use Rattle.satp_base.specs.declared.verdict.Verdict.TheVariants as verdict
 use Rattle.satp_base.proofs.Exact as exact
 use Rattle.std.specs.Cmp.Lexicographic.{same_text}
 use Rattle.satp_base.proofs.GenesisLemmas.{equal_name}
-use Rattle.satp_base.proofs.SignatureLemmas.{own_shows}
 use Rattle.satp_sides.specs.Calls.{Refusal, refusal_of, run_of, adopted, adopted_as, asked, fault_in, is_adopt, is_adopted, own_at, replied, step_refusal, update_text, updated, body_refusal, by_tests, chain_of, first_refusal, heard, heard_as, is_full, is_misaddressed, is_next, is_strange, named, runs, taken, again_reply, test, unfit, verdict_in, would_begin, would_take, IsEntryOf}
 use Rattle.satp_sides.specs.Calls.Refusal.{Receiver, Strange, Full}
 use Rattle.satp_sides.specs.Logs.{IsLog}
 use Rattle.satp_sides.specs.Moves.{Among, Delivered, Sayable, last_texts, message_from}
-use Rattle.satp_sides.specs.Moves.Among.{first, later}
-use Rattle.satp_sides.specs.Moves.Delivered.{Alone, Listed}
+use Rattle.satp_sides.specs.Moves.Among.{first}
+use Rattle.satp_sides.specs.Moves.Delivered.{Listed}
 use Rattle.satp_sides.specs.Moves.Sayable.{Knows_none}
-use Rattle.satp_sides.specs.Said.{RecoverySays, WasSaid}
-use Rattle.satp_sides.specs.Said.WasSaid.{Of_chain, Of_nothing, Of_recovery}
 use Rattle.satp_recovery.specs.Rounds.{Answers, Takes as TakesCases, answer_of, take_of}
 use Rattle.satp_recovery.specs.Rounds.Answers.{Apart as Answered_apart, OneMore, AsMany, OneFewer, OtherLast, OtherBefore}
 use Rattle.satp_recovery.specs.Rounds.Takes.{Apart as Takes_apart, Adopts, AsMany as Takes_as_many, Resends, NoneCame, TooMany, NoneWanted}
@@ -40,18 +37,10 @@ use Rattle.satp_recovery.specs.declared.choice.RecoveryFault.{RecoveryFault}
 use Rattle.satp_recovery.specs.declared.choice.Step.{Step}
 use Rattle.satp_recovery.specs.declared.choice.Step.TheVariants.{Adopt, Equal, Resend}
 use Rattle.satp_recovery.proofs.RoundLemmas.{by-answers, by-takes}
-use Rattle.satp_base.specs.Chains.{message_at}
 use Rattle.satp_base.specs.declared.head.Head.{Head}
-use Rattle.satp_base.specs.declared.message.Part.TheVariants.{Proposal}
-use Rattle.satp_base.specs.declared.view.View.{View}
-use Rattle.satp_base.proofs.TaleTable.{tale-short}
-use Rattle.std.proofs.lemmas.List.{length-map}
-use Rattle.satp_sides.proofs.Chained.{message-of}
 use Rattle.satp_sides.proofs.Records.{chain-none, is-session}
-use Rattle.satp_world.proofs.KeptLaw.{bag-was-said}
 use Rattle.satp_world.proofs.Limits.{idle}
-use Rattle.satp_world.proofs.WorldLaw.{law_safety}
-use Rattle.satp_sides.specs.Points.{Party, Slot, Stored, Text, chain_in, most_sessions, recipient_at, slot_in, view_in}
+use Rattle.satp_sides.specs.Points.{Party, Slot, Stored, Text, chain_in, most_sessions, recipient_at, slot_in}
 use Rattle.satp_sides.proofs.LogLaw.{log-sessions}
 use Rattle.satp_world.specs.Work.{HeardRunsMove, RunGoes}
 use Rattle.satp_world.specs.Worlds.{Gateway, Reached, Setting, World, party_at, side_at}
@@ -59,9 +48,10 @@ use Rattle.satp_world.proofs.HearLaw.{is-again, party-apart, peer-place, role-on
 use Rattle.satp_world.proofs.KeptLaw.{logs-kept}
 use Rattle.satp_world.proofs.Replies.{again-says, own-at-says, update-says}
 use Rattle.satp_world.proofs.RunLaw.{named-by, refused-goes, rescue-goes, runs-none, slot-at, view-none-of}
+use Rattle.satp_world.proofs.Sources.{IsChains, alone}
 use Rattle.satp_world.proofs.WorkLaw.{IsSideOf}
 
-same-is : (x y : Name) → same_name x y ≡ true → x ≡ y
+pub same-is : (x y : Name) → same_name x y ≡ true → x ≡ y
 same-is x y h = exact.same_text x y (same_text _ _ (sym h))
 
 -- ---- what the tests say
@@ -71,7 +61,7 @@ not-both true true e = (refl, refl)
 not-both true false e = absurd (cc e)
 not-both false y e = absurd (cc e)
 
-addressed : (p : Party) (m : Message) → is_misaddressed p m ≡ false → (m.receiver ≡ p.name) × (m.sender ≡ p.peer)
+pub addressed : (p : Party) (m : Message) → is_misaddressed p m ≡ false → (m.receiver ≡ p.name) × (m.sender ≡ p.peer)
 addressed p m e = let (x, y) = not-both (equal_names m.receiver p.name) (equal_names m.sender p.peer) e in (equal_name m.receiver p.name x, equal_name m.sender p.peer y)
 
 strange-by : (own peer : Bool) (o : Option Slot) → (if own then negate (is_some o) else negate peer) ≡ false → o ≡ None → peer ≡ true
@@ -80,10 +70,10 @@ strange-by true peer (Some l) e h = absurd (cc h)
 strange-by false true o e h = refl
 strange-by false false o e h = absurd (cc e)
 
-of-peer : (p : Party) (xs : List Stored) (s : SessionId) → is_strange p xs s ≡ false → slot_in s xs ≡ None → s.gateway ≡ p.peer
+pub of-peer : (p : Party) (xs : List Stored) (s : SessionId) → is_strange p xs s ≡ false → slot_in s xs ≡ None → s.gateway ≡ p.peer
 of-peer p xs s e none = equal_name s.gateway p.peer (strange-by (equal_names s.gateway p.name) (equal_names s.gateway p.peer) (slot_in s xs) e none)
 
-begins-not : (o : Option Slot) (takes full : Bool) → both (both (negate (is_some o)) takes) full ≡ false → o ≡ None → takes ≡ true → full ≡ false
+pub begins-not : (o : Option Slot) (takes full : Bool) → both (both (negate (is_some o)) takes) full ≡ false → o ≡ None → takes ≡ true → full ≡ false
 begins-not None true full e h t = e
 begins-not None false full e h t = absurd (cc t)
 begins-not (Some l) takes full e h t = absurd (cc h)
@@ -154,78 +144,13 @@ module _ (st : Setting) (a b : Founding) (w : World) (r : Reached st a b w) (g :
     chain-goes verdict.WrongSender h room ve u = absurd (cc u)
     chain-goes (verdict.OffTale n) h room ve u = absurd (cc u)
 
--- ---- texts of recovery
+-- ---- recovery, kind by kind
 
-drop-nil : (n : ℕ) → ◌≡◌ {A = List Text} (drop n []) []
+pub drop-nil : (n : ℕ) → ◌≡◌ {A = List Text} (drop n []) []
 drop-nil zero = refl
 drop-nil (suc n) = refl
 
-among-drop : (n : ℕ) (ts : List Text) (t : Text) → Among t (drop n ts) → Among t ts
-among-drop zero ts t i = i
-among-drop (suc n) [] t i = i
-among-drop (suc n) (u ∷ ts) t i = later (among-drop n ts t i)
-
-among-take : (n : ℕ) (ts : List Text) (t : Text) → Among t (take n ts) → Among t ts
-among-take zero ts t i = elim i [ ]
-among-take (suc n) [] t i = i
-among-take (suc n) (u ∷ ts) _ first = first
-among-take (suc n) (u ∷ ts) t (later i) = later (among-take n ts t i)
-
-among-get : (t : Text) (ts : List Text) → Among t ts → (i : ℕ) × (slice_get ts i ≡ Some t)
-among-get t _ first = (zero, refl)
-among-get t _ (later {ts = ts} i) = let (n, e) = among-get t ts i in (suc n, e)
-
-nothing-among : (t : Text) (ts : List Text) → ts ≡ [] → Among t ts → ⊥
-nothing-among t ts e i = elim (subst (Among t) e i) [ ]
-
--- the text is that of a chain's message
-abbrev pub IsChains : Body → Type 0
-IsChains (body.Chain place previous q) = Unit {0}
-IsChains c = ⊥
-
-module _ (st : Setting) (a b : Founding) (w : World) (r : Reached st a b w) where
-  -- a text that stands in a chain
-  chain-text : (g : Gateway) (s : SessionId) (v : View) → view_in s (side_at w g).records ≡ Some v → (i : ℕ) (t : Text) → slice_get (chain_in s (side_at w g).records) i ≡ Some t → (m : Message) → IsMessage m → t ≡ own st.key m → IsChains m.body
-  chain-text g s v e i t d m f x =
-      let c = (law_safety st a b w r).chains g s v e in
-      let short = tale-short _ c.chain.tale in
-      let h = message-of s (recipient_at (party_at st g) v.role) st.key (Proposal v.terms ∷ c.rest) i t (omega (arith, short, length-map (Proposal v.terms ∷ c.rest) part_kind)) c.chain.formed (ap (λ ts. slice_get ts i) (sym c.chain.each) ∙ d) in
-      let same = own_shows st.key st.key (message_at s (recipient_at (party_at st g) v.role) (i + 1) h.previous h.part) m h.formed f (sym h.text ∙ x) in
-      subst (λ (n : Message). IsChains n.body) same tt
-
-  chain-among : (g : Gateway) (s : SessionId) (t : Text) → Among t (chain_in s (side_at w g).records) → (m : Message) → IsMessage m → t ≡ own st.key m → IsChains m.body
-  chain-among g s t i m f x = by (view_in s (side_at w g).records) refl
-    where
-      by : (o : Option View) → view_in s (side_at w g).records ≡ o → IsChains m.body
-      by None e = absurd (nothing-among t _ (chain-none s (side_at w g).records (named-by (party_at st g) s (side_at w g).records (logs-kept st a b w r g) e)) i)
-      by (Some v) e = let (n, d) = among-get t (chain_in s (side_at w g).records) i in chain-text g s v e n t d m f x
-
-  -- an entry of an update that was said is a text of a chain
-  entry-chains : (m : Message) (n : ℕ) (entries : List Text) → IsMessage m → Among (own st.key m) w.bag → m.body ≡ body.Update n entries → (t : Text) → Among t entries → (c : Message) → IsMessage c → t ≡ own st.key c → IsChains c.body
-  entry-chains m n entries f i is t j c h x = let (g, z) = bag-was-said st a b w r (own st.key m) i in by g z
-    where
-      by : (g : Gateway) → WasSaid (party_at st g) (side_at w g).records (own st.key m) → IsChains c.body
-      by g (Of_chain s v k e d role) = absurd (subst IsChains is (chain-text g s v e k (own st.key m) d m f refl))
-      by g (Of_nothing s known fm eq) =
-          let same : message_from (party_at st g) s (body.Update 0 []) ≡ m = own_shows st.key st.key (message_from (party_at st g) s (body.Update 0 [])) m fm f (sym eq) in
-          let bodies : body.Update 0 [] ≡ body.Update n entries = ap (λ (y : Message). y.body) same ∙ is in
-          let none : entries ≡ [] = cc in
-          absurd (nothing-among t entries none j)
-      by g (Of_recovery s bd k some le fm says eq) =
-          let same : message_from (party_at st g) s bd ≡ m = own_shows st.key st.key (message_from (party_at st g) s bd) m fm f (sym eq) in
-          let bodies : bd ≡ body.Update n entries = ap (λ (y : Message). y.body) same ∙ is in
-          let last = (subst (RecoverySays (take k (chain_in s (side_at w g).records))) bodies says).1 in
-          let there = among-drop _ _ t (subst (Among t) last j) in
-          chain-among g s t (among-take k (chain_in s (side_at w g).records) t there) c h x
-
-  -- so a recovery message that was handed over stands in the bag by itself
-  pub alone : (t : Text) → Delivered st.key w.bag t → (m : Message) → IsMessage m → t ≡ own st.key m → (IsChains m.body → ⊥) → Among (own st.key m) w.bag
-  alone t (Alone i) m f x barred = subst (λ u. Among u w.bag) x i
-  alone t (Listed u n entries f i is j) m h x barred = absurd (barred (entry-chains u n entries f i is t j m h x))
-
--- ---- recovery, kind by kind
-
-near-by : (h : Head) (n : ℕ) (last : Link) (x : Result ℕ RecoveryFault) → Answers h n last x → fault_in x ≡ None → h.length ≤ n + 1
+pub near-by : (h : Head) (n : ℕ) (last : Link) (x : Result ℕ RecoveryFault) → Answers h n last x → fault_in x ≡ None → h.length ≤ n + 1
 near-by h n last _ (Answered_apart f k) e = absurd (cc e)
 near-by h n last _ (OneMore k) e = omega (arith, k)
 near-by h n last _ (AsMany k l) e = omega (arith, k)
@@ -279,16 +204,16 @@ module _ (st : Setting) (a b : Founding) (w : World) (r : Reached st a b w) (g :
 
 -- ---- an entry that is adopted
 
-both-true : (x y : Bool) → both x y ≡ true → (x ≡ true) × (y ≡ true)
+pub both-true : (x y : Bool) → both x y ≡ true → (x ≡ true) × (y ≡ true)
 both-true true true e = (refl, refl)
 both-true true false e = absurd (cc e)
 both-true false y e = absurd (cc e)
 
-not-true : (x : Bool) → negate x ≡ true → x ≡ false
+pub not-true : (x : Bool) → negate x ≡ true → x ≡ false
 not-true true e = absurd (cc e)
 not-true false e = refl
 
-next-is : (v : Verdict) → is_next v ≡ true → v ≡ verdict.Next
+pub next-is : (v : Verdict) → is_next v ≡ true → v ≡ verdict.Next
 next-is verdict.Next e = refl
 next-is (verdict.Again n) e = absurd (cc e)
 next-is (verdict.Gap n) e = absurd (cc e)
@@ -297,7 +222,7 @@ next-is (verdict.WrongPrevious link) e = absurd (cc e)
 next-is verdict.WrongSender e = absurd (cc e)
 next-is (verdict.OffTale n) e = absurd (cc e)
 
-holds-by : (x : Bool) (f : Refusal) → test (negate x) f ≡ None → x ≡ true
+pub holds-by : (x : Bool) (f : Refusal) → test (negate x) f ≡ None → x ≡ true
 holds-by true f e = refl
 holds-by false f e = absurd (cc e)
 

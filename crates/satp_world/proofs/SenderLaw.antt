@@ -55,11 +55,11 @@ known-kept st w q side bag move m k = record {
 
 -- ---- what is said now
 
-twice : (g : Gateway) → opposite (opposite g) ≡ g
+pub twice : (g : Gateway) → opposite (opposite g) ≡ g
 twice A = refl
 twice B = refl
 
-same-name : (st : Setting) (g q : Gateway) → name_at st g ≡ name_at st q → g ≡ q
+pub same-name : (st : Setting) (g q : Gateway) → name_at st g ≡ name_at st q → g ≡ q
 same-name st A A h = refl
 same-name st B B h = refl
 same-name st A B h = absurd (st.differ h)

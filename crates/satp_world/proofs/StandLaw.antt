@@ -27,7 +27,7 @@ goes-on : (d : Deal) (s new : Session) → DealRun d (deal_of s) → DealGoesOn 
 goes-on d s new r (inl same) = subst (DealRun d) (sym same) r
 goes-on d s new r (inr k) = step-on d (deal_of s) (deal_of new) k.0 r k.1
 
-run-reached : (st : Setting) (a b : Founding) (w v : World) → Reached st a b w → WorldRun st w v → Reached st a b v
+pub run-reached : (st : Setting) (a b : Founding) (w v : World) → Reached st a b w → WorldRun st w v → Reached st a b v
 run-reached st a b w _ r Run_rests = r
 run-reached st a b w v r (Run_goes u _ before m) = Reached_next u v (run-reached st a b w u r before) m
 

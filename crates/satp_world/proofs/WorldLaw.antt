@@ -85,13 +85,13 @@ not_itself A h = cc h
 not_itself B h = cc h
 
 -- the session gives the gateway this role
-abbrev HasRole : Setting → Gateway → Role → SessionId → Type 0
+abbrev pub HasRole : Setting → Gateway → Role → SessionId → Type 0
 HasRole st q Origin s = s.gateway ≡ name_at st q
 HasRole st q Recipient s = s.gateway ≡ name_at st (opposite q)
 
 -- ---- a move, as one session sees it
 
-arrives-at : (st : Setting) (w : World) (q : Gateway) (role : Role) (s : SessionId) (n : ℕ) (previous : Link) (p : Part) → HasRole st q role s → BagStands st w w.bag
+pub arrives-at : (st : Setting) (w : World) (q : Gateway) (role : Role) (s : SessionId) (n : ℕ) (previous : Link) (p : Part) → HasRole st q role s → BagStands st w w.bag
     → Delivered st.key w.bag (own st.key (message_at s (recipient_at (party_at st q) role) (n + 1) previous p)) → IsMessage (message_at s (recipient_at (party_at st q) role) (n + 1) previous p) → role_at (n + 1) ≡ other role
     → slice_get (chain_in s (side_at w (opposite q)).records) n ≡ Some (own st.key (message_at s (recipient_at (party_at st q) role) (n + 1) previous p))
 arrives-at st w q Origin s n previous p h b d f r = subst (λ x. slice_get (chain_in s (side_at w (maker_side q x)).records) n ≡ Some (own st.key (message_at s (name_at st (opposite q)) (n + 1) previous p))) r (b _ d q s h n previous p f refl)
@@ -257,7 +257,7 @@ world-named st w k B side bag m A t v h = k.named A t v h
 -- ---- texts of chains
 
 -- the kinds of a side are a tale
-tale-by : (role : Role) (a b : Option View) (e f : Entry) → SessionStands (session_by role a b e f) → IsTale (tale_of a)
+pub tale-by : (role : Role) (a b : Option View) (e f : Entry) → SessionStands (session_by role a b e f) → IsTale (tale_of a)
 tale-by role None b e f k = tale-is [] here
 tale-by Origin (Some a) None e f k = k.0.tale
 tale-by Origin (Some a) (Some b) e f k = k.origin.tale
@@ -468,7 +468,7 @@ start-stands st a b = record {
     empty t (Alone i) = elim i [ ]
     empty t (Listed m n entries f i x j) = elim i [ ]
 
-world-stands : (st : Setting) (a b : Founding) (w : World) → Reached st a b w → WorldStands st w
+pub world-stands : (st : Setting) (a b : Founding) (w : World) → Reached st a b w → WorldStands st w
 world-stands st a b _ Begins = start-stands st a b
 world-stands st a b _ (Goes w v r (By q side bag m)) = next-stands st w (world-stands st a b w r) q side bag m
 

@@ -8,3 +8,6 @@ pub mod Limits
 pub mod Kept
 pub mod Standing
 pub mod Work
+pub mod Honest
+pub mod Histories
+pub mod Effects

@@ -6,6 +6,9 @@
 ghost use Rattle.satp_world.specs.Deal.{LawDeals};
 ghost use Rattle.satp_world.specs.Sessions.{LawSessions, LawStep};
 ghost use Rattle.satp_world.specs.Standing.{BeginningStands, MovesStand, SessionsRun, SessionsRunFromTheFirst};
+ghost use Rattle.satp_world.specs.Effects.{AnswersStand, AnswersWereSaid, OthersStay, RunsSayTheirAnswers};
+ghost use Rattle.satp_world.specs.Histories.{EventsAreSafe, EventsKeepTotals, EventsReach, EventsRunDeals};
+ghost use Rattle.satp_world.specs.Honest.{HonestIsTaken};
 ghost use Rattle.satp_world.specs.Work.{HeardRunsMove, OperatorsRunsMove, WorkMoves};
 ghost use Rattle.satp_world.specs.Worlds.{LawSafety};
 ghost use Rattle.satp_world.specs.Examples.{LawEndings};
@@ -98,4 +101,36 @@ pub fn law_work()
     ensures due { WorkMoves }
     ensures operators { OperatorsRunsMove }
     ensures heard { HeardRunsMove }
+{}
+
+/// In every world that moves of both gateways lead to, a text that a network can hand over to its receiver, one of the
+/// bag or an entry of an update there, is refused only where it is a recovery message that is out of date: it tells of a
+/// chain that has grown since, its entry doesn't fit the chain any more, or it says that a round is over of which the
+/// receiver lacks the last message. A message of a chain is never refused, and no honest text for its address, for its
+/// session, for a link, or for want of room.
+pub fn law_honest()
+    ensures taken { HonestIsTaken }
+{}
+
+/// Any list of calls of both gateways leads from such a world to another one: what operators ask, of sessions that begin
+/// those of their gateway's name alone; messages that a network can hand over; and texts that are no message's. Each call
+/// is whole or stops after some of its moves. Along them the deal of each session is a run of the deal machine. So from
+/// ledgers as they were founded both gateways are safe after any such list, and the sums of every asset hold.
+pub fn law_runs()
+    ensures reach { EventsReach }
+    ensures deals { EventsRunDeals }
+    ensures safe { EventsAreSafe }
+    ensures totals { EventsKeepTotals }
+{}
+
+/// What holds of each call, on any side: the records and the entry of every other session stay, also where the call is
+/// stopped; and it says its answer alone, after all else that it does. Where the records are a log, whoever the peer is
+/// and whatever the ledger answers, a text that it answers was said, by the records after the call: it is one of a chain,
+/// or a recovery message of the first texts of one, or says that the gateway knows nothing of a session. In a world that
+/// moves of both gateways lead to it is so ever after.
+pub fn law_calls()
+    ensures others { OthersStay }
+    ensures says { RunsSayTheirAnswers }
+    ensures said { AnswersWereSaid }
+    ensures stands { AnswersStand }
 {}

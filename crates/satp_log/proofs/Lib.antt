@@ -4,3 +4,4 @@ pub mod Folds
 pub mod JournalLemmas
 pub mod Entries
 pub mod LogLemmas
+pub mod AddLemmas

@@ -5,3 +5,4 @@ pub mod JournalLemmas
 pub mod Entries
 pub mod LogLemmas
 pub mod AddLemmas
+pub mod ReadLemmas

@@ -207,14 +207,17 @@ Found payload result = IfOk result (λ x. IsFormed x × (payload ≡ payload_of 
 pub begin-ok : (payload : List ℕ) (result : Result Journaled RecordFault) (x : Journaled) (setup : Setup) (entries : List Held) → result ≡ Ok x → x ≡ journaled.Setup setup → Found payload result → entries ≡ []
     → BeginsLog payload (Ok (record { setup = setup; entries = entries; started = 0; accepted = 0 }))
 begin-ok payload result x setup entries is what found none =
-    let h = subst (Found payload) (is ∙ ap Ok what) found in
-    (setup, record { list = ap (λ (p : List ℕ). p ∷ []) h.1; formed = h.0; log = (log-grows (party_of setup)).none }, record {
-      setup_is = refl;
-      sessions = ap sessions_of none;
-      states = subst (AllHeld (party_of setup) []) (sym none) tt;
-      started = refl;
-      accepted = refl;
-    })
+    let h = subst (Found payload) (is ∙ ap Ok what) found in (
+      setup,
+      record { list = ap (λ (p : List ℕ). p ∷ []) h.1; formed = h.0; log = (log-grows (party_of setup)).none },
+      record {
+        setup_is = refl;
+        sessions = ap sessions_of none;
+        states = subst (AllHeld (party_of setup) []) (sym none) tt;
+        started = refl;
+        accepted = refl;
+      },
+    )
 
 -- ---- looking up
 

@@ -1,5 +1,5 @@
 -- What a log holds of a journal's records, and what its calls answer.
-use Rattle.std.specs.Prelude.{◌≡◌, ◌≢◌, ◌<◌, ◌+◌, ℕ, List, [], ◌∷◌, ◌++◌, map, filter, slice_get, Bool, true, false, Option, Some, None, option_and_then, Result, Ok, Err, nat_lt, if◌then◌else◌}
+use Rattle.std.specs.Prelude.{◌≡◌, ◌≢◌, ◌<◌, ◌+◌, ℕ, List, [], ◌∷◌, ◌++◌, map, take, filter, slice_get, Bool, true, false, Option, Some, None, option_and_then, Result, Ok, Err, nat_lt, if◌then◌else◌}
 use Rattle.satp_base.specs.declared.message.Role.TheVariants.{Origin, Recipient}
 use Rattle.satp_base.specs.declared.record.Rec.{Rec}
 use Rattle.satp_base.specs.declared.record.Rec.TheVariants.{Began, Took, Made, Did, Chose, Rescue}
@@ -88,6 +88,24 @@ LogReads payloads (Err (fault.Record index)) = IsFirstRefused payloads index
 LogReads payloads (Err fault.Memory) = Unit {0}
 
 -- ---- helpers of the code
+
+-- the log holds the journal that the first payloads are, so many of them
+abbrev pub HoldsFirst : List (List ℕ) → ℕ → LogState → Type 0
+HoldsFirst payloads n log = (setup : Setup) × (xs : List Stored) × IsJournal (take n payloads) setup xs × LogHolds log setup xs
+
+-- Ok: the log holds the first payload. A fault is that of the payloads.
+abbrev pub ReadsFirst : List (List ℕ) → Result LogState LogFault → Type 0
+ReadsFirst payloads (Ok log) = HoldsFirst payloads 1 log
+ReadsFirst payloads (Err e) = LogReads payloads (Err e)
+
+-- Ok: the log holds the first payloads, so many of them. A fault is that of the payloads.
+abbrev pub AddsUpTo : List (List ℕ) → ℕ → LogState → Result (Unit {0}) LogFault → Type 0
+AddsUpTo payloads n log (Ok done) = HoldsFirst payloads n log
+AddsUpTo payloads n log (Err e) = LogReads payloads (Err e)
+
+abbrev pub fault_at : Misfit → ℕ → LogFault
+fault_at misfit.Refused index = fault.Record index
+fault_at misfit.Memory index = fault.Memory
 
 -- the index of the session's entry; none where no entry is of the session
 abbrev pub IsPlaceOf : List Held → SessionId → Option ℕ → Type 0

@@ -1,17 +1,17 @@
-ghost use Rattle.std.specs.Prelude.{◌≡◌, ◌≢◌, ℕ, List, Some, None, slice_get};
+ghost use Rattle.std.specs.Prelude.{◌≡◌, ◌≢◌, ◌+◌, ◌<◌, ℕ, List, Some, None, IfErr, length, slice_get};
 ghost use Rattle.std.specs.Option.{option_copied};
 ghost use Rattle.satp_sides.specs.Logs.{IsLog};
 ghost use Rattle.satp_sides.specs.Points.{Stored as StoredOf, view_in};
 ghost use Rattle.satp_sides.specs.Calls.{text_of};
 ghost use Rattle.satp_chain.specs.Chained.{texts_in};
 ghost use Rattle.satp_records.specs.declared.stored.Setup.{Setup};
-ghost use Rattle.satp_log.specs.Journals.{IsJournal, party_of};
-ghost use Rattle.satp_log.specs.Logged.{AddsRecord, AddsStored, AddsTo, BeginsLog, IsPlaceOf, LogHolds, counts_with, sessions_in, text_in};
+ghost use Rattle.satp_log.specs.Journals.{IsJournal, IsSomeJournal, party_of};
+ghost use Rattle.satp_log.specs.Logged.{AddsRecord, AddsStored, AddsTo, AddsUpTo, BeginsLog, HoldsFirst, IsPlaceOf, LogHolds, LogReads, ReadsFirst, counts_with, fault_at, sessions_in, text_in};
 
-use crate::fault::Misfit;
+use crate::fault::{LogFault, Misfit};
 use crate::held::{Held, place_of};
 use crate::state::SessionState;
-use satp_base::{Rec, Role, SessionId, View};
+use satp_base::{Rec, Role, SessionId, Texts, View};
 use satp_chain::Chain;
 use satp_jws::Key;
 use satp_records::{RecordFault, Setup, Stored, decode};
@@ -63,6 +63,58 @@ impl Log {
                 accepted: 0,
             }),
             Err(_) => unreachable!(),
+        }
+    }
+
+    /// The log of a gateway's journal: of its payloads, read in their order.
+    ///
+    /// `Empty` comes exactly where there are none. `Record` comes with the index, from 0, of the first payload that may not stand there, and only where there is one.
+    /// So a gateway's journal is read unless no memory is found.
+    pub fn read(alloc: Global, payloads: &Texts) -> Result<Log, LogFault>
+        ensures reads { LogReads payloads.now result }
+        ensures journal { IsSomeJournal payloads.now → IfErr result (λ fault. fault ≡ LogFault.Memory) }
+    {
+        let mut log = Log::first(alloc, payloads)?;
+        log.add_rest(alloc, payloads)?;
+        Ok(log)
+    }
+
+    /// The log of the first payload.
+    fn first(alloc: Global, payloads: &Texts) -> Result<Log, LogFault>
+        ensures { ReadsFirst payloads.now result }
+    {
+        match payloads.get(0) {
+            Some(payload) => match Log::begin(alloc, payload.bytes()) {
+                Ok(log) => Ok(log),
+                Err(misfit) => Err(fault_at(misfit, 0)),
+            },
+            None => Err(LogFault::Empty),
+        }
+    }
+
+    /// Adds the payloads after the first.
+    fn add_rest(&mut self, alloc: Global, payloads: &Texts) -> Result<(), LogFault>
+        requires { HoldsFirst payloads.now 1 self.old }
+        ensures { AddsUpTo payloads.now (length payloads.now) self.new result }
+    {
+        for index in 1..payloads.length() {
+            self.add_at(alloc, payloads, index)?;
+        }
+        Ok(())
+    }
+
+    /// Adds the payload at an index.
+    fn add_at(&mut self, alloc: Global, payloads: &Texts, index: usize) -> Result<(), LogFault>
+        requires within { index < length payloads.now }
+        requires holds { HoldsFirst payloads.now index self.old }
+        ensures { AddsUpTo payloads.now (index + 1) self.new result }
+    {
+        match payloads.get(index) {
+            Some(payload) => match self.add(alloc, payload.bytes()) {
+                Ok(()) => Ok(()),
+                Err(misfit) => Err(fault_at(misfit, index)),
+            },
+            None => unreachable!(),
         }
     }
 
@@ -209,6 +261,16 @@ fn counts_with(rec: &Rec, started: u32, accepted: u32) -> Option<(u32, u32)>
             }
         }
         _ => Some((started, accepted)),
+    }
+}
+
+/// The fault of a payload at an index that isn't added.
+fn fault_at(misfit: Misfit, index: usize) -> LogFault
+    ensures { result ≡ fault_at misfit index }
+{
+    match misfit {
+        Misfit::Refused => LogFault::Record { index },
+        Misfit::Memory => LogFault::Memory,
     }
 }
 

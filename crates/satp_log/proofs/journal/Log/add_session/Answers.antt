@@ -24,11 +24,11 @@ returns-after-push c = λ setup xs log h.
           answered setup xs s r text now c.match-push.self _ c.match-push.result _ w.self-is w.result-is
           (session-added setup xs now _ c.self.view_is s r text log h c.counts_with.result c.in-Some.started c.in-Some.accepted c.in-Ok.state c.push.new.self.items c.requires c.counts_with.ensures c.in-Some.is
           (subst (BeginAnswers (party_of setup) s xs r text) c.in-Ok.is begun) w.in-Ok-push.ensures.items)
-      )
+          )
       | in-Err-push w ↦ (
           answered setup xs s r text now c.match-push.self _ c.match-push.result _ w.self-is w.result-is
           (session-unheld setup xs now _ c.self.view_is s r text log h c.push.new.self.items w.in-Err-push.ensures.items)
-      )
+          )
     ]
 
 pub returns-in-Err : goal.returns-in-Err

@@ -5,7 +5,7 @@ use Rattle.std.proofs.lemmas.List.{take_all}
 use Rattle.satp_records.specs.declared.stored.Setup.{Setup}
 use Rattle.satp_sides.specs.Points.{Stored}
 use Rattle.satp_log.specs.Journals.{IsFirstRefused, IsJournal, IsSomeJournal}
-use Rattle.satp_log.specs.Logged.{AddsTo, AddsUpTo, BeginsLog, HoldsFirst, LogHolds, LogReads, LogState, ReadsFirst, fault_at}
+use Rattle.satp_log.specs.Logged.{AddsTo, BeginsLog, HoldsFirst, LogHolds, LogReads, LogState, ReadsFirst, fault_at}
 use Rattle.satp_log.specs.declared.fault.LogFault.{LogFault}
 use Rattle.satp_log.specs.declared.fault.LogFault.TheVariants as fault
 use Rattle.satp_log.specs.declared.fault.Misfit.{Misfit}
@@ -48,20 +48,19 @@ module _ (payloads : List (List ℕ)) (n : ℕ) (p : List ℕ) (old : LogState) 
   pub next-ok : (new : LogState) → Adds new (Ok tt) → HoldsFirst payloads (n + 1) new
   next-ok new (x, j, h) = (holds.0, holds.1 ++ x ∷ [], subst (λ ps. IsJournal ps holds.0 (holds.1 ++ x ∷ [])) (sym (take-next payloads n p e)) j, h)
 
-  pub next-err : (new : LogState) (m : Misfit) → Adds new (Err m) → LogReads payloads (Err (fault_at m n))
+  next-err : (new : LogState) (m : Misfit) → Adds new (Err m) → LogReads payloads (Err (fault_at m n))
   next-err new misfit.Refused a = record { within = within-at payloads n p e; before = inr (holds.0, holds.1, holds.2); refused = λ some. a.0 (subst IsSomeJournal (take-next payloads n p e) some) }
   next-err new misfit.Memory a = tt
 
+  pub next-fault : (new : LogState) (result : Result (Unit {0}) Misfit) (m : Misfit) (f : LogFault) → result ≡ Err m → f ≡ fault_at m n → Adds new result → LogReads payloads (Err f)
+  next-fault new result m f is e a = subst (λ g. LogReads payloads (Err g)) (sym e) (next-err new m (subst (Adds new) is a))
+
 -- ---- all payloads
 
-pub holds-all : (payloads : List (List ℕ)) (n : ℕ) (log : LogState) → length payloads ≤ n → HoldsFirst payloads n log → HoldsFirst payloads (length payloads) log
-holds-all payloads n log w (setup, xs, j, h) =
-    (setup, xs, subst (λ ps. IsJournal ps setup xs) (take_all n payloads w ∙ sym (take_all (length payloads) payloads (omega arith))) j, h)
+pub all-read : (payloads : List (List ℕ)) (n : ℕ) (log : LogState) → length payloads ≤ n → HoldsFirst payloads n log → LogReads payloads (Ok log)
+all-read payloads n log w (setup, xs, j, h) = (setup, xs, subst (λ ps. IsJournal ps setup xs) (take_all n payloads w) j, h)
 
-pub all-read : (payloads : List (List ℕ)) (log : LogState) → HoldsFirst payloads (length payloads) log → LogReads payloads (Ok log)
-all-read payloads log (setup, xs, j, h) = (setup, xs, subst (λ ps. IsJournal ps setup xs) (take_all (length payloads) payloads (omega arith)) j, h)
-
-journal-err : (payloads : List (List ℕ)) (e : LogFault) → LogReads payloads (Err e) → IsSomeJournal payloads → e ≡ fault.Memory
+pub journal-err : (payloads : List (List ℕ)) (e : LogFault) → LogReads payloads (Err e) → IsSomeJournal payloads → e ≡ fault.Memory
 journal-err payloads fault.Empty r some = absurd ((none-refused payloads some).0 r)
 journal-err payloads (fault.Record index) r some = absurd ((none-refused payloads some).1 index r)
 journal-err payloads fault.Memory r some = refl

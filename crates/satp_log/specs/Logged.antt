@@ -98,11 +98,6 @@ abbrev pub ReadsFirst : List (List ℕ) → Result LogState LogFault → Type 0
 ReadsFirst payloads (Ok log) = HoldsFirst payloads 1 log
 ReadsFirst payloads (Err e) = LogReads payloads (Err e)
 
--- Ok: the log holds the first payloads, so many of them. A fault is that of the payloads.
-abbrev pub AddsUpTo : List (List ℕ) → ℕ → LogState → Result (Unit {0}) LogFault → Type 0
-AddsUpTo payloads n log (Ok done) = HoldsFirst payloads n log
-AddsUpTo payloads n log (Err e) = LogReads payloads (Err e)
-
 abbrev pub fault_at : Misfit → ℕ → LogFault
 fault_at misfit.Refused index = fault.Record index
 fault_at misfit.Memory index = fault.Memory

@@ -1,4 +1,4 @@
-ghost use Rattle.std.specs.Prelude.{◌≡◌, ◌≢◌, ◌+◌, ◌<◌, ℕ, List, Some, None, IfErr, length, slice_get};
+ghost use Rattle.std.specs.Prelude.{◌≡◌, ◌≢◌, ◌<◌, ℕ, List, Some, None, IfErr, length, slice_get};
 ghost use Rattle.std.specs.Option.{option_copied};
 ghost use Rattle.satp_sides.specs.Logs.{IsLog};
 ghost use Rattle.satp_sides.specs.Points.{Stored as StoredOf, view_in};
@@ -6,7 +6,7 @@ ghost use Rattle.satp_sides.specs.Calls.{text_of};
 ghost use Rattle.satp_chain.specs.Chained.{texts_in};
 ghost use Rattle.satp_records.specs.declared.stored.Setup.{Setup};
 ghost use Rattle.satp_log.specs.Journals.{IsJournal, IsSomeJournal, party_of};
-ghost use Rattle.satp_log.specs.Logged.{AddsRecord, AddsStored, AddsTo, AddsUpTo, BeginsLog, HoldsFirst, IsPlaceOf, LogHolds, LogReads, ReadsFirst, counts_with, fault_at, sessions_in, text_in};
+ghost use Rattle.satp_log.specs.Logged.{AddsRecord, AddsStored, AddsTo, BeginsLog, IsPlaceOf, LogHolds, LogReads, ReadsFirst, counts_with, fault_at, sessions_in, text_in};
 
 use crate::fault::{LogFault, Misfit};
 use crate::held::{Held, place_of};
@@ -75,7 +75,11 @@ impl Log {
         ensures journal { IsSomeJournal payloads.now → IfErr result (λ fault. fault ≡ LogFault.Memory) }
     {
         let mut log = Log::first(alloc, payloads)?;
-        log.add_rest(alloc, payloads)?;
+        for index in 1..payloads.length() {
+            if let Err(misfit) = log.add(alloc, payload_at(payloads, index)) {
+                return Err(fault_at(misfit, index));
+            }
+        }
         Ok(log)
     }
 
@@ -89,32 +93,6 @@ impl Log {
                 Err(misfit) => Err(fault_at(misfit, 0)),
             },
             None => Err(LogFault::Empty),
-        }
-    }
-
-    /// Adds the payloads after the first.
-    fn add_rest(&mut self, alloc: Global, payloads: &Texts) -> Result<(), LogFault>
-        requires { HoldsFirst payloads.now 1 self.old }
-        ensures { AddsUpTo payloads.now (length payloads.now) self.new result }
-    {
-        for index in 1..payloads.length() {
-            self.add_at(alloc, payloads, index)?;
-        }
-        Ok(())
-    }
-
-    /// Adds the payload at an index.
-    fn add_at(&mut self, alloc: Global, payloads: &Texts, index: usize) -> Result<(), LogFault>
-        requires within { index < length payloads.now }
-        requires holds { HoldsFirst payloads.now index self.old }
-        ensures { AddsUpTo payloads.now (index + 1) self.new result }
-    {
-        match payloads.get(index) {
-            Some(payload) => match self.add(alloc, payload.bytes()) {
-                Ok(()) => Ok(()),
-                Err(misfit) => Err(fault_at(misfit, index)),
-            },
-            None => unreachable!(),
         }
     }
 
@@ -261,6 +239,17 @@ fn counts_with(rec: &Rec, started: u32, accepted: u32) -> Option<(u32, u32)>
             }
         }
         _ => Some((started, accepted)),
+    }
+}
+
+/// The payload at an index below their number.
+fn payload_at(payloads: &Texts, index: usize) -> &[u8]
+    requires { index < length payloads.now }
+    ensures { slice_get payloads.now index ≡ Some result.now }
+{
+    match payloads.get(index) {
+        Some(payload) => payload.bytes(),
+        None => unreachable!(),
     }
 }
 

@@ -1,6 +1,6 @@
 -- A log with one record more.
-use Rattle.std.proofs.Common.{◌≡◌, ◌≢◌, ◌<◌, ◌+◌, ℕ, zero, suc, Bool, true, false, cond, get_or, List, [], ◌∷◌, ◌++◌, map, Option, Some, None, refl, sym, ap, ap₂, subst, ◌∙◌, arith}
-use Rattle.std.specs.Prelude.{slice_get, slice_set, nat_lt, Result, Ok, Err, IfOk, if◌then◌else◌}
+use Rattle.std.proofs.Common.{◌≡◌, ◌≢◌, ◌+◌, ℕ, zero, suc, Bool, true, false, cond, get_or, List, [], ◌∷◌, ◌++◌, Option, Some, None, refl, sym, ap, ap₂, subst, ◌∙◌}
+use Rattle.std.specs.Prelude.{slice_get, slice_set, nat_lt, Result, Ok, Err, if◌then◌else◌}
 use Rattle.std.proofs.lemmas.Bool.{lt-ltb}
 use Rattle.std.proofs.lemmas.List.{map-append}
 use Rattle.std.proofs.lemmas.Option.{get_or_from_slice_get}
@@ -16,13 +16,13 @@ use Rattle.satp_records.specs.declared.stored.Stored.{Stored as Journaled}
 use Rattle.satp_records.specs.declared.stored.Stored.TheVariants as journaled
 use Rattle.satp_records.proofs.Payloads.{one_record}
 use Rattle.satp_sides.specs.Logs.{IsLog, MayCome}
-use Rattle.satp_sides.specs.Points.{Party, Stored, Text, begun, is_session, most_sessions, records_of, stored, view_in}
+use Rattle.satp_sides.specs.Points.{Party, Stored, Text, begun, is_session, most_sessions, records_of, stored}
 use Rattle.satp_sides.proofs.Bounds.{not-begun}
 use Rattle.satp_sides.proofs.LogLaw.{log-all}
 use Rattle.satp_sides.proofs.Records.{session-self, view-none}
 use Rattle.satp_log.specs.Folding.{AddAnswers, BeginAnswers, HasRoom, IsStateOf, State}
 use Rattle.satp_log.specs.Journals.{IsJournal, IsSomeJournal, party_of}
-use Rattle.satp_log.specs.Logged.{AddsRecord, AddsStored, AddsTo, AllHeld, IsPlaceOf, LogHolds, LogState, begins, counts_with, sessions_in, sessions_of}
+use Rattle.satp_log.specs.Logged.{AddsRecord, AddsTo, AllHeld, IsPlaceOf, LogHolds, LogState, begins, counts_with, sessions_in, sessions_of}
 use Rattle.satp_log.specs.declared.fault.Misfit.{Misfit}
 use Rattle.satp_log.specs.declared.fault.Misfit.TheVariants.{Refused, Memory}
 use Rattle.satp_log.specs.declared.held.Held.{Held}
@@ -286,32 +286,21 @@ adds payloads setup xs payload old new s r text (Err Refused) j f e a = (refused
         a.0 (subst (MayCome (party_of setup) xs) (one-payload y (stored s r text) (formed-record (party_of setup) xs y j.log may) f (sym q ∙ e)) may)
 adds payloads setup xs payload old new s r text (Err Memory) j f e a = a
 
-not-session : (payloads : List (List ℕ)) (setup : Setup) (xs : List Stored) (payload : List ℕ) → IsJournal payloads setup xs → (x : Journaled) → IsFormed x → payload ≡ payload_of x
-    → ((s : SessionId) (r : Rec) (text : Text) → journaled.Session s r text ≡ x → ⊥) → IsSomeJournal (payloads ++ payload ∷ []) → ⊥
-not-session payloads setup xs payload j x f e n some =
-    let (y, q, may) = only-comes payloads setup xs j payload some in
-    n y.session y.rec y.text (one_record (journaled.Session y.session y.rec y.text) x (formed-record (party_of setup) xs y j.log may) f (sym q ∙ e))
+pub adds-session : (payloads : List (List ℕ)) (setup : Setup) (xs : List Stored) (payload : List ℕ) (old new : LogState) (x : Journaled) (s : SessionId) (r : Rec) (text bytes : Text) (result : Result (Unit {0}) Misfit)
+    → IsJournal payloads setup xs → IsFormed x → payload ≡ payload_of x → x ≡ journaled.Session s r text → bytes ≡ text → AddsRecord setup xs s r bytes old new result → AddsTo payloads setup xs payload old new result
+adds-session payloads setup xs payload old new x s r text bytes result j f e is b a =
+    adds payloads setup xs payload old new s r text result j (subst IsFormed is f) (e ∙ ap payload_of is) (subst (λ t. AddsRecord setup xs s r t old new result) b a)
 
-adds-none : (payloads : List (List ℕ)) (setup : Setup) (xs : List Stored) (payload : List ℕ) (old new : LogState) (result : Result (Unit {0}) Misfit) → IsJournal payloads setup xs → (x : Journaled) → IsFormed x → payload ≡ payload_of x
-    → ((s : SessionId) (r : Rec) (text : Text) → journaled.Session s r text ≡ x → ⊥) → (result ≡ Err Refused) × (new ≡ old) → AddsTo payloads setup xs payload old new result
-adds-none payloads setup xs payload old new result j x f e n a = subst (AddsTo payloads setup xs payload old new) (sym a.0) (not-session payloads setup xs payload j x f e n, a.1)
-
-pub adds-stored : (payloads : List (List ℕ)) (setup : Setup) (xs : List Stored) (payload : List ℕ) (old new : LogState) (result : Result (Unit {0}) Misfit) → IsJournal payloads setup xs → (x : Journaled) → IsFormed x → payload ≡ payload_of x
-    → AddsStored setup xs x old new result → AddsTo payloads setup xs payload old new result
-adds-stored payloads setup xs payload old new result j (journaled.Session s r text) f e a = adds payloads setup xs payload old new s r text result j f e a
-adds-stored payloads setup xs payload old new result j (journaled.Setup t) f e a = adds-none payloads setup xs payload old new result j (journaled.Setup t) f e (λ s r text q. cc q) a
-adds-stored payloads setup xs payload old new result j (journaled.Kind k) f e a = adds-none payloads setup xs payload old new result j (journaled.Kind k) f e (λ s r text q. cc q) a
-adds-stored payloads setup xs payload old new result j (journaled.Asset n c) f e a = adds-none payloads setup xs payload old new result j (journaled.Asset n c) f e (λ s r text q. cc q) a
-adds-stored payloads setup xs payload old new result j (journaled.Hold n o c) f e a = adds-none payloads setup xs payload old new result j (journaled.Hold n o c) f e (λ s r text q. cc q) a
-adds-stored payloads setup xs payload old new result j (journaled.Act op s t) f e a = adds-none payloads setup xs payload old new result j (journaled.Act op s t) f e (λ s r text q. cc q) a
-
-pub adds-other : (setup : Setup) (xs : List Stored) (now : LogState) (x : Journaled) → ((s : SessionId) (r : Rec) (text : Text) → x ≡ journaled.Session s r text → ⊥) → AddsStored setup xs x now now (Err Refused)
-adds-other setup xs now (journaled.Session s r text) n = absurd (n s r text refl)
-adds-other setup xs now (journaled.Setup t) n = (refl, refl)
-adds-other setup xs now (journaled.Kind k) n = (refl, refl)
-adds-other setup xs now (journaled.Asset a c) n = (refl, refl)
-adds-other setup xs now (journaled.Hold a o c) n = (refl, refl)
-adds-other setup xs now (journaled.Act op s t) n = (refl, refl)
+-- no other record comes after the first
+pub adds-other : (payloads : List (List ℕ)) (setup : Setup) (xs : List Stored) (payload : List ℕ) (now : LogState) (x : Journaled) → IsJournal payloads setup xs → IsFormed x → payload ≡ payload_of x
+    → ((s : SessionId) (r : Rec) (text : Text) → x ≡ journaled.Session s r text → ⊥) → AddsTo payloads setup xs payload now now (Err Refused)
+adds-other payloads setup xs payload now x j f e n = (refused, refl)
+  where
+    refused : IsSomeJournal (payloads ++ payload ∷ []) → ⊥
+    refused some =
+        let (y, q, may) = only-comes payloads setup xs j payload some in
+        let as_y = journaled.Session y.session y.rec y.text in
+        n y.session y.rec y.text (sym (one_record as_y x (formed-record (party_of setup) xs y j.log may) f (sym q ∙ e)))
 
 pub adds-err : (payloads : List (List ℕ)) (setup : Setup) (xs : List Stored) (payload : List ℕ) (now : LogState) (result : Result Journaled RecordFault) (f : RecordFault) (m : Misfit) → IsJournal payloads setup xs → result ≡ Err f → Decodes payload result
     → (f ≡ decoding.Memory → m ≡ Memory) → (f ≢ decoding.Memory → m ≡ Refused) → AddsTo payloads setup xs payload now now (Err m)

@@ -1,10 +1,10 @@
 -- The state of a session with one record more.
-use Rattle.std.proofs.Common.{◌≡◌, ◌≢◌, ◌⊎◌, inl, inr, ◌<◌, ℕ, List, [], ◌∷◌, ◌++◌, map, Option, Some, None, IsTrue, refl, sym, ap, ap₂, subst, ◌∙◌, arith}
-use Rattle.std.proofs.lemmas.List.{append-nil, map-append}
-use Rattle.std.specs.Prelude.{Bool, is_some, option_map, true, false, Result, Ok, Err}
-use Rattle.satp_base.specs.Canonical.{kind_of, part_kind}
+use Rattle.std.proofs.Common.{◌≡◌, ◌<◌, ℕ, List, [], ◌∷◌, ◌++◌, map, Option, Some, None, IsTrue, refl, sym, ap, ap₂, subst, ◌∙◌, arith}
+use Rattle.std.proofs.lemmas.List.{map-append}
+use Rattle.std.specs.Prelude.{Bool, is_some, option_map, true, false, Ok, Err}
+use Rattle.satp_base.specs.Canonical.{kind_of}
 use Rattle.satp_base.specs.Chains.{next_text, texts_from}
-use Rattle.satp_base.specs.Forms.{IsPart, is_plain}
+use Rattle.satp_base.specs.Forms.{is_plain}
 use Rattle.satp_base.specs.Roles.{IsReached, RoleRule}
 use Rattle.satp_base.specs.Signatures.{own}
 use Rattle.satp_base.specs.Tales.{IsTale}
@@ -17,7 +17,6 @@ use Rattle.satp_base.specs.declared.message.Part.TheVariants as part
 use Rattle.satp_base.specs.declared.message.Reason.{Reason}
 use Rattle.satp_base.specs.declared.message.Reason.TheVariants.{UnknownAsset, MintCapped, Aborted, LedgerTaken}
 use Rattle.satp_base.specs.declared.message.Role.{Role}
-use Rattle.satp_base.specs.declared.message.Role.TheVariants.{Origin, Recipient}
 use Rattle.satp_base.specs.declared.message.Terms.{Terms}
 use Rattle.satp_base.specs.declared.name.Name.{Name}
 use Rattle.satp_base.specs.declared.record.Rec.{Rec}
@@ -29,7 +28,7 @@ use Rattle.satp_chain.specs.Verdicts.{Follows}
 use Rattle.satp_chain.specs.declared.signed.Signed.{Signed}
 use Rattle.satp_sides.specs.LogLaws.{IsOfRole}
 use Rattle.satp_sides.specs.Logs.{IsNote, MayCome}
-use Rattle.satp_sides.specs.Points.{Party, Slot, Stored, Text, begun, chain_in, most_sessions, recipient_at, records_of, slot, slot_in, stored, view_in}
+use Rattle.satp_sides.specs.Points.{Party, Slot, Stored, Text, begun, chain_in, most_sessions, recipient_at, records_of, slot, stored, view_in}
 use Rattle.satp_sides.proofs.Growth.{Carries, no-text, note-tale, one-text, pushed-tale}
 use Rattle.satp_sides.proofs.Growth.Carries.{As_made, As_taken}
 use Rattle.satp_sides.proofs.LogLaw.{reached-keeps, reached-more}
@@ -37,7 +36,7 @@ use Rattle.satp_sides.proofs.Records.{chain-here, chain-none, push-head, session
 use Rattle.satp_log.specs.declared.fault.Misfit.{Misfit}
 use Rattle.satp_log.specs.declared.fault.Misfit.TheVariants.{Refused, Memory}
 use Rattle.satp_log.specs.Folding.{AddAnswers, FitsChain, HasKind, HasMessage, HasOtherText, HasRoom, HasText, IsSound, IsStateOf, MessageAnswers, State}
-use Rattle.satp_log.proofs.Comings.{Begins, Comes, IsNoted, Says, began-once, comes, made-fits, may, part-of-kind, took-fits}
+use Rattle.satp_log.proofs.Comings.{Comes, Says, began-once, comes, made-fits, may, part-of-kind, took-fits}
 
 -- ---- slots
 

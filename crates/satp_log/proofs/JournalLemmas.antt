@@ -1,7 +1,7 @@
 -- Payloads are the journal of one gateway, and it goes on by the records that may come.
-use Rattle.std.proofs.Common.{◌≡◌, ◌≢◌, ◌⊎◌, inl, inr, ◌<◌, ◌≤◌, ◌+◌, ◌-◌, ℕ, zero, suc, true, List, [], ◌∷◌, ◌++◌, length, map, take, drop, Some, IsTrue, refl, sym, ap, ap₂, subst, ◌∙◌, arith, take-append-drop}
+use Rattle.std.proofs.Common.{◌≡◌, ◌≢◌, ◌⊎◌, inl, inr, ◌+◌, ◌-◌, ℕ, zero, suc, List, [], ◌∷◌, ◌++◌, map, take, drop, Some, IsTrue, refl, sym, ap, ap₂, subst, ◌∙◌, arith, take-append-drop}
 use Rattle.std.specs.List.{AllByRecursion, take-map}
-use Rattle.std.proofs.lemmas.List.{append-nil, map-append}
+use Rattle.std.proofs.lemmas.List.{map-append}
 use Rattle.satp_base.specs.Forms.{is_entry, is_entry_byte}
 use Rattle.satp_base.specs.Tales.{maker}
 use Rattle.satp_base.specs.declared.message.Kind.{Kind}
@@ -10,7 +10,7 @@ use Rattle.satp_base.specs.declared.message.Role.{Role}
 use Rattle.satp_base.specs.declared.record.Rec.{Rec}
 use Rattle.satp_base.specs.declared.record.Rec.TheVariants.{Began, Took, Made, Did, Chose, Rescue}
 use Rattle.satp_base.proofs.Forms.{form_parts}
-use Rattle.satp_records.specs.Formats.{IsFormed, IsFormedRec, IsMessageText, is_answer, payload_of}
+use Rattle.satp_records.specs.Formats.{IsFormedRec, IsMessageText, is_answer, payload_of}
 use Rattle.satp_records.specs.declared.stored.Setup.{Setup}
 use Rattle.satp_records.specs.declared.stored.Stored.{Stored as Journaled}
 use Rattle.satp_records.specs.declared.stored.Stored.TheVariants as journaled
@@ -20,7 +20,7 @@ use Rattle.satp_sides.specs.Logs.{IsLog, MayCome}
 use Rattle.satp_sides.specs.Points.{Party, Stored}
 use Rattle.satp_sides.proofs.LogLaw.{log-all, log-grows}
 use Rattle.satp_sides.proofs.LogTexts.{log-texts}
-use Rattle.satp_log.specs.Journals.{GoesOn, IsFirstRefused, IsJournal, IsSomeJournal, JournalsGoOn, NoneRefused, OneJournal, PrefixesAreJournals, party_of, payload_in, payloads_of}
+use Rattle.satp_log.specs.Journals.{IsJournal, IsSomeJournal, JournalsGoOn, NoneRefused, OneJournal, PrefixesAreJournals, party_of, payload_in, payloads_of}
 
 -- ---- records of a log can be stored
 

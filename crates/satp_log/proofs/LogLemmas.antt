@@ -1,14 +1,12 @@
 -- A log holds what the records say, with one record more.
-use Rattle.std.proofs.Common.{◌≡◌, ◌≢◌, ◌⊎◌, inl, inr, ◌<◌, ◌≤◌, ◌+◌, ◌-◌, ℕ, zero, suc, Bool, true, false, cond, get_or, List, [], ◌∷◌, ◌++◌, length, map, take, Option, Some, None, IsTrue, refl, sym, ap, ap₂, subst, ◌∙◌, arith}
-use Rattle.std.specs.Prelude.{filter, slice_get, option_map, option_and_then, nat_lt, Result, Ok, Err, IfOk, if◌then◌else◌}
+use Rattle.std.proofs.Common.{◌≡◌, ◌≢◌, inl, inr, ◌<◌, ◌+◌, ℕ, zero, suc, Bool, true, false, cond, get_or, List, [], ◌∷◌, ◌++◌, length, map, Option, Some, None, refl, sym, ap, ap₂, subst, ◌∙◌}
+use Rattle.std.specs.Prelude.{filter, slice_get, option_map, option_and_then, nat_lt, Result, Ok, Err, IfOk}
 use Rattle.std.specs.List.{AllByRecursion}
 use Rattle.std.proofs.lemmas.Bool.{ltb-true}
 use Rattle.std.proofs.lemmas.List.{append-nil, map-append, length_push}
 use Rattle.std.proofs.lemmas.List.Elements.{filter-append}
 use Rattle.satp_base.specs.Views.{view_of}
 use Rattle.satp_base.specs.declared.message.Role.{Role}
-use Rattle.satp_base.specs.declared.message.Role.TheVariants.{Origin, Recipient}
-use Rattle.satp_base.specs.declared.message.Terms.{Terms}
 use Rattle.satp_base.specs.declared.record.Rec.{Rec}
 use Rattle.satp_base.specs.declared.record.Rec.TheVariants.{Began, Took, Made, Did, Chose, Rescue}
 use Rattle.satp_base.specs.declared.session.SessionId.{SessionId}
@@ -21,13 +19,12 @@ use Rattle.satp_records.specs.declared.stored.Setup.{Setup}
 use Rattle.satp_records.specs.declared.stored.Stored.{Stored as Journaled}
 use Rattle.satp_records.specs.declared.stored.Stored.TheVariants as journaled
 use Rattle.satp_sides.specs.Logs.{IsLog, MayCome}
-use Rattle.satp_sides.specs.Points.{Party, Slot, Stored, Text, began_as, begun, chain_in, is_session, most_sessions, records_of, slot, slot_in, stored, view_in}
-use Rattle.satp_sides.proofs.Bounds.{not-begun}
+use Rattle.satp_sides.specs.Points.{Party, Slot, Stored, Text, began_as, begun, chain_in, is_session, records_of, slot, stored, view_in}
 use Rattle.satp_sides.proofs.LogLaw.{log-all, log-grows}
 use Rattle.satp_sides.proofs.Records.{chain-apart, is-session, records-apart, session-self, view-apart, view-first, view-here}
-use Rattle.satp_log.specs.Folding.{BeginAnswers, HasRoom, IsStateOf, State}
-use Rattle.satp_log.specs.Journals.{IsJournal, IsSomeJournal, party_of}
-use Rattle.satp_log.specs.Logged.{AddsRecord, AllHeld, BeginsLog, IsPlaceOf, LogHolds, LogState, begins, counts_with, sessions_in, sessions_of, text_in}
+use Rattle.satp_log.specs.Folding.{IsStateOf, State}
+use Rattle.satp_log.specs.Journals.{IsJournal, party_of}
+use Rattle.satp_log.specs.Logged.{AllHeld, BeginsLog, IsPlaceOf, LogHolds, LogState, begins, sessions_in, sessions_of, text_in}
 use Rattle.satp_log.specs.declared.fault.Misfit.{Misfit}
 use Rattle.satp_log.specs.declared.fault.Misfit.TheVariants.{Refused, Memory}
 use Rattle.satp_log.specs.declared.held.Held.{Held}

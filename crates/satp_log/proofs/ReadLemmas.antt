@@ -1,11 +1,9 @@
 -- Payloads that are read one after the other.
-use Rattle.std.proofs.Common.{◌≡◌, ◌⊎◌, inl, inr, ◌<◌, ◌≤◌, ◌+◌, ℕ, zero, suc, List, [], ◌∷◌, ◌++◌, length, take, Some, None, refl, sym, ap, subst, ◌∙◌, arith}
+use Rattle.std.proofs.Common.{◌≡◌, inl, inr, ◌<◌, ◌≤◌, ◌+◌, ℕ, zero, suc, List, [], ◌∷◌, ◌++◌, length, take, Some, None, refl, sym, ap, subst, ◌∙◌, arith}
 use Rattle.std.specs.Prelude.{slice_get, Result, Ok, Err, IfErr, IsErr, IsErrAnd}
 use Rattle.std.proofs.lemmas.List.{take_all}
-use Rattle.satp_records.specs.declared.stored.Setup.{Setup}
-use Rattle.satp_sides.specs.Points.{Stored}
-use Rattle.satp_log.specs.Journals.{IsFirstRefused, IsJournal, IsSomeJournal}
-use Rattle.satp_log.specs.Logged.{AddsTo, BeginsLog, HoldsFirst, LogHolds, LogReads, LogState, ReadsFirst, fault_at}
+use Rattle.satp_log.specs.Journals.{IsJournal, IsSomeJournal}
+use Rattle.satp_log.specs.Logged.{AddsTo, BeginsLog, HoldsFirst, LogReads, LogState, ReadsFirst, fault_at}
 use Rattle.satp_log.specs.declared.fault.LogFault.{LogFault}
 use Rattle.satp_log.specs.declared.fault.LogFault.TheVariants as fault
 use Rattle.satp_log.specs.declared.fault.Misfit.{Misfit}

@@ -1,14 +1,12 @@
 -- What a log holds of a journal's records, and what its calls answer.
-use Rattle.std.specs.Prelude.{◌≡◌, ◌≢◌, ◌<◌, ◌+◌, ℕ, List, [], ◌∷◌, ◌++◌, map, take, filter, slice_get, Bool, true, false, Option, Some, None, option_and_then, Result, Ok, Err, nat_lt, if◌then◌else◌}
+use Rattle.std.specs.Prelude.{◌≡◌, ◌≢◌, ◌+◌, ℕ, List, [], ◌∷◌, ◌++◌, map, take, filter, slice_get, Bool, true, false, Option, Some, None, option_and_then, Result, Ok, Err, nat_lt, if◌then◌else◌}
 use Rattle.satp_base.specs.declared.message.Role.TheVariants.{Origin, Recipient}
 use Rattle.satp_base.specs.declared.record.Rec.{Rec}
-use Rattle.satp_base.specs.declared.record.Rec.TheVariants.{Began, Took, Made, Did, Chose, Rescue}
+use Rattle.satp_base.specs.declared.record.Rec.TheVariants.{Began}
 use Rattle.satp_base.specs.declared.session.SessionId.{SessionId}
 use Rattle.satp_records.specs.declared.stored.Setup.{Setup}
-use Rattle.satp_records.specs.declared.stored.Stored.{Stored as Journaled}
-use Rattle.satp_records.specs.declared.stored.Stored.TheVariants as journaled
 use Rattle.satp_sides.specs.Calls.{text_of}
-use Rattle.satp_sides.specs.Logs.{IsLog, MayCome}
+use Rattle.satp_sides.specs.Logs.{MayCome}
 use Rattle.satp_sides.specs.Points.{Party, Slot, Stored, begun, most_sessions, slot_in, stored}
 use Rattle.satp_log.specs.Folding.{IsStateOf}
 use Rattle.satp_log.specs.Journals.{IsFirstRefused, IsJournal, IsSomeJournal, party_of}
@@ -74,11 +72,6 @@ abbrev pub AddsRecord : Setup → List Stored → SessionId → Rec → List ℕ
 AddsRecord setup xs s r text old new (Ok done) = MayCome (party_of setup) xs (stored s r text) × LogHolds new setup (xs ++ stored s r text ∷ [])
 AddsRecord setup xs s r text old new (Err misfit.Refused) = (MayCome (party_of setup) xs (stored s r text) → ⊥) × (new ≡ old)
 AddsRecord setup xs s r text old new (Err misfit.Memory) = new ≡ old
-
--- the same of what a payload says: no other record comes after the first
-abbrev pub AddsStored : Setup → List Stored → Journaled → LogState → LogState → Result (Unit {0}) Misfit → Type 0
-AddsStored setup xs (journaled.Session s r text) old new result = AddsRecord setup xs s r text old new result
-AddsStored setup xs other old new result = (result ≡ Err misfit.Refused) × (new ≡ old)
 
 -- Ok: they are a gateway's journal, which the log holds. Empty: there are none. Record: the one at the index is the first that may not stand there.
 abbrev pub LogReads : List (List ℕ) → Result LogState LogFault → Type 0

@@ -6,7 +6,7 @@ ghost use Rattle.satp_sides.specs.Calls.{text_of};
 ghost use Rattle.satp_chain.specs.Chained.{texts_in};
 ghost use Rattle.satp_records.specs.declared.stored.Setup.{Setup};
 ghost use Rattle.satp_log.specs.Journals.{IsJournal, IsSomeJournal, party_of};
-ghost use Rattle.satp_log.specs.Logged.{AddsRecord, AddsStored, AddsTo, BeginsLog, IsPlaceOf, LogHolds, LogReads, ReadsFirst, counts_with, fault_at, sessions_in, text_in};
+ghost use Rattle.satp_log.specs.Logged.{AddsRecord, AddsTo, BeginsLog, IsPlaceOf, LogHolds, LogReads, ReadsFirst, counts_with, fault_at, sessions_in, text_in};
 
 use crate::fault::{LogFault, Misfit};
 use crate::held::{Held, place_of};
@@ -103,19 +103,13 @@ impl Log {
         ensures { (payloads : List (List ℕ)) (setup : Setup) (xs : List StoredOf) → IsJournal payloads setup xs → LogHolds self.old setup xs → AddsTo payloads setup xs payload.now self.old self.new result }
     {
         match decode(alloc, payload) {
-            Ok(stored) => self.add_stored(alloc, &stored),
+            Ok(stored) => match &stored {
+                Stored::Session { session, rec, text } => {
+                    self.add_record(alloc, *session, rec, text.bytes())
+                }
+                _ => Err(Misfit::Refused),
+            },
             Err(fault) => Err(misfit_of(fault)),
-        }
-    }
-
-    fn add_stored(&mut self, alloc: Global, stored: &Stored) -> Result<(), Misfit>
-        ensures { (setup : Setup) (xs : List StoredOf) → IsLog (party_of setup) xs → LogHolds self.old setup xs → AddsStored setup xs stored.now self.old self.new result }
-    {
-        match stored {
-            Stored::Session { session, rec, text } => {
-                self.add_record(alloc, *session, rec, text.bytes())
-            }
-            _ => Err(Misfit::Refused),
         }
     }
 

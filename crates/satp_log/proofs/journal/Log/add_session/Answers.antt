@@ -1,8 +1,7 @@
-use Rattle.std.proofs.Common.{◌∙◌, ap, sym, subst}
+use Rattle.std.proofs.Common.{subst}
 use Rattle.satp_log.specs.Folding.{BeginAnswers}
 use Rattle.satp_log.specs.Journals.{party_of}
-use Rattle.satp_log.specs.Logged.{LogState}
-use Rattle.satp_log.proofs.AddLemmas.{Counted, answered, counts-are, new-session, party-is, session-added, session-refused, session-unheld, too-many}
+use Rattle.satp_log.proofs.AddLemmas.{answered, counts-are, new-session, party-is, session-added, session-refused, session-unheld, too-many}
 use Rattle.satp_log.proofs.journal.Log.add_session.Goals as goal
 use Rattle.satp_log.proofs.journal.Log.add_session.Goals.{in-Ok-push, in-Err-push}
 

@@ -166,10 +166,3 @@ began-once role v r terms (Due e) = no-beginning role v r terms e
 began-once role v r terms (Answered op a e x) = elim (after-shape op a (Began r terms) x) [ inl q ↦ absurd (cc q) | inr q ↦ absurd (cc q.1) ]
 began-once Origin v r terms (Free o) = absurd o
 began-once Recipient v r terms (Free o) = absurd o
-
--- ---- parts of a kind
-
-pub part-of-kind : (kind : Kind) (q : Part) → IsTrue (is_plain kind) → IsPart q → part_kind q ≡ kind → q ≡ part.Plain kind
-part-of-kind kind (part.Proposal terms) p f e = absurd (let h = subst (λ k. IsTrue (is_plain k)) (sym e) p in cc h)
-part-of-kind kind (part.Plain k) p f e = ap part.Plain e
-part-of-kind kind (part.Reject reason) p f e = absurd (let h = subst (λ k. IsTrue (is_plain k)) (sym e) p in cc h)

@@ -1,17 +1,15 @@
 -- Which records may come next, by their kind.
-use Rattle.std.proofs.Common.{◌≡◌, ◌⊎◌, inl, inr, ◌<◌, ℕ, Bool, true, false, List, [], ◌∷◌, ◌++◌, map, Option, Some, None, IsTrue, refl, sym, ap, subst, ◌∙◌}
-use Rattle.std.proofs.lemmas.List.{append-nil, map-append}
-use Rattle.std.specs.Prelude.{option_map}
+use Rattle.std.proofs.Common.{◌≡◌, ◌⊎◌, inl, inr, ◌<◌, Bool, true, false, List, [], ◌∷◌, ◌++◌, Some, IsTrue, refl, sym, ap, subst, ◌∙◌}
 use Rattle.satp_base.specs.Canonical.{part_kind}
 use Rattle.satp_base.specs.Chains.{next_text}
 use Rattle.satp_base.specs.Forms.{IsPart, is_plain}
-use Rattle.satp_base.specs.Roles.{AreAllowed, IsReached, RoleRule, next_of}
+use Rattle.satp_base.specs.Roles.{IsReached, RoleRule, next_of}
 use Rattle.satp_base.specs.Roles.RoleRule.{Due, Answered, Free}
 use Rattle.satp_base.specs.declared.record.Next.{Next}
 use Rattle.satp_base.specs.declared.record.Next.TheVariants.{Append}
 use Rattle.satp_base.proofs.RoleLemmas.{after-shape, role-gives}
 use Rattle.satp_base.specs.Tales.{IsTale, maker, other}
-use Rattle.satp_base.specs.Views.{KeepsTale, begin, push, view_from}
+use Rattle.satp_base.specs.Views.{begin, push, view_from}
 use Rattle.satp_base.specs.declared.message.Kind.{Kind}
 use Rattle.satp_base.specs.declared.message.Kind.TheVariants.{TransferProposal, ProposalReceipt, TransferCommence, CommenceAck, LockAssert, LockReceipt, CommitPrepare, CommitReady, CommitFinal, CommitFinalAck, TransferComplete, Reject, Rollback, RollbackAck, Recover, RecoverUpdate, RecoverSuccess}
 use Rattle.satp_base.specs.declared.message.Part.{Part}
@@ -168,10 +166,3 @@ began-once role v r terms (Due e) = no-beginning role v r terms e
 began-once role v r terms (Answered op a e x) = elim (after-shape op a (Began r terms) x) [ inl q ↦ absurd (cc q) | inr q ↦ absurd (cc q.1) ]
 began-once Origin v r terms (Free o) = absurd o
 began-once Recipient v r terms (Free o) = absurd o
-
--- ---- parts of a kind
-
-pub part-of-kind : (kind : Kind) (q : Part) → IsTrue (is_plain kind) → IsPart q → part_kind q ≡ kind → q ≡ part.Plain kind
-part-of-kind kind (part.Proposal terms) p f e = absurd (let h = subst (λ k. IsTrue (is_plain k)) (sym e) p in cc h)
-part-of-kind kind (part.Plain k) p f e = ap part.Plain e
-part-of-kind kind (part.Reject reason) p f e = absurd (let h = subst (λ k. IsTrue (is_plain k)) (sym e) p in cc h)

@@ -1,23 +1,19 @@
 -- The state of a session with one record more.
-use Rattle.std.proofs.Common.{◌≡◌, ◌≢◌, ◌⊎◌, inl, inr, ◌<◌, ℕ, List, [], ◌∷◌, ◌++◌, map, Option, Some, None, IsTrue, refl, sym, ap, ap₂, subst, ◌∙◌, arith}
-use Rattle.std.proofs.lemmas.List.{append-nil, map-append}
-use Rattle.std.specs.Prelude.{Bool, is_some, option_map, true, false, Result, Ok, Err}
-use Rattle.satp_base.specs.Canonical.{kind_of, part_kind}
+use Rattle.std.proofs.Common.{◌≡◌, ◌<◌, ℕ, List, [], ◌∷◌, ◌++◌, map, Option, Some, None, IsTrue, refl, sym, ap, ap₂, subst, ◌∙◌, arith}
+use Rattle.std.proofs.lemmas.List.{map-append}
+use Rattle.std.specs.Prelude.{Bool, option_map, true, false, Ok, Err}
+use Rattle.satp_base.specs.Canonical.{kind_of}
 use Rattle.satp_base.specs.Chains.{next_text, texts_from}
-use Rattle.satp_base.specs.Forms.{IsPart, is_plain}
 use Rattle.satp_base.specs.Roles.{IsReached, RoleRule}
 use Rattle.satp_base.specs.Signatures.{own}
 use Rattle.satp_base.specs.Tales.{IsTale}
 use Rattle.satp_base.specs.Tales.IsTale.{Onward}
 use Rattle.satp_base.specs.Views.{KeepsTale, begin, push}
 use Rattle.satp_base.specs.declared.message.Kind.{Kind}
-use Rattle.satp_base.specs.declared.message.Kind.TheVariants.{TransferProposal, Reject}
+use Rattle.satp_base.specs.declared.message.Kind.TheVariants.{TransferProposal}
 use Rattle.satp_base.specs.declared.message.Part.{Part}
 use Rattle.satp_base.specs.declared.message.Part.TheVariants as part
-use Rattle.satp_base.specs.declared.message.Reason.{Reason}
-use Rattle.satp_base.specs.declared.message.Reason.TheVariants.{UnknownAsset, MintCapped, Aborted, LedgerTaken}
 use Rattle.satp_base.specs.declared.message.Role.{Role}
-use Rattle.satp_base.specs.declared.message.Role.TheVariants.{Origin, Recipient}
 use Rattle.satp_base.specs.declared.message.Terms.{Terms}
 use Rattle.satp_base.specs.declared.name.Name.{Name}
 use Rattle.satp_base.specs.declared.record.Rec.{Rec}
@@ -29,7 +25,7 @@ use Rattle.satp_chain.specs.Verdicts.{Follows}
 use Rattle.satp_chain.specs.declared.signed.Signed.{Signed}
 use Rattle.satp_sides.specs.LogLaws.{IsOfRole}
 use Rattle.satp_sides.specs.Logs.{IsNote, MayCome}
-use Rattle.satp_sides.specs.Points.{Party, Slot, Stored, Text, begun, chain_in, most_sessions, recipient_at, records_of, slot, slot_in, stored, view_in}
+use Rattle.satp_sides.specs.Points.{Party, Slot, Stored, Text, begun, chain_in, most_sessions, recipient_at, records_of, slot, stored, view_in}
 use Rattle.satp_sides.proofs.Growth.{Carries, no-text, note-tale, one-text, pushed-tale}
 use Rattle.satp_sides.proofs.Growth.Carries.{As_made, As_taken}
 use Rattle.satp_sides.proofs.LogLaw.{reached-keeps, reached-more}
@@ -37,7 +33,7 @@ use Rattle.satp_sides.proofs.Records.{chain-here, chain-none, push-head, session
 use Rattle.satp_log.specs.declared.fault.Misfit.{Misfit}
 use Rattle.satp_log.specs.declared.fault.Misfit.TheVariants.{Refused, Memory}
 use Rattle.satp_log.specs.Folding.{AddAnswers, FitsChain, HasKind, HasMessage, HasOtherText, HasRoom, HasText, IsSound, IsStateOf, MessageAnswers, State}
-use Rattle.satp_log.proofs.Comings.{Begins, Comes, IsNoted, Says, began-once, comes, made-fits, may, part-of-kind, took-fits}
+use Rattle.satp_log.proofs.Comings.{Comes, Says, began-once, comes, made-fits, may, took-fits}
 
 -- ---- slots
 
@@ -219,38 +215,6 @@ module _ (p : Party) (s : SessionId) (xs : List Stored) (old : State) (key : Lis
 
   pub add-other-text : (r : Rec) (text : Text) → HasOtherText old.chain key r text → MayCome p xs (stored s r text) → ⊥
   add-other-text r text n m = other-text r text n (comes p xs (stored s r text) m)
-
--- ---- a reject of whatever reason
-
-pub rejecting-kind : (chain : Chained) (key : List ℕ) (reason : Reason) (text : List ℕ) (signed : Signed) → HasText chain key (part.Reject reason) text (Some signed) → HasKind chain key Reject text (Some signed)
-rejecting-kind chain key reason text signed h = (part.Reject reason, tt, refl, h)
-
-pub rejecting-none : (chain : Chained) (key text : List ℕ) → HasText chain key (part.Reject UnknownAsset) text None → HasText chain key (part.Reject MintCapped) text None → HasText chain key (part.Reject Aborted) text None
-    → HasText chain key (part.Reject LedgerTaken) text None → HasKind chain key Reject text None
-rejecting-none chain key text a b c d (part.Proposal terms) f k = absurd (cc k)
-rejecting-none chain key text a b c d (part.Plain kind) f k = absurd (let h = subst (λ j. IsTrue (is_plain j)) k f in cc h)
-rejecting-none chain key text a b c d (part.Reject UnknownAsset) f k = a
-rejecting-none chain key text a b c d (part.Reject MintCapped) f k = b
-rejecting-none chain key text a b c d (part.Reject Aborted) f k = c
-rejecting-none chain key text a b c d (part.Reject LedgerTaken) f k = d
-
-pub rejecting-last : (chain : Chained) (key text : List ℕ) (r : Option Signed) → HasText chain key (part.Reject UnknownAsset) text None → HasText chain key (part.Reject MintCapped) text None → HasText chain key (part.Reject Aborted) text None
-    → HasText chain key (part.Reject LedgerTaken) text r → HasKind chain key Reject text r
-rejecting-last chain key text None a b c d = rejecting-none chain key text a b c d
-rejecting-last chain key text (Some signed) a b c d = rejecting-kind chain key LedgerTaken text signed d
-
-pub rejecting-some : (chain : Chained) (key : List ℕ) (reason : Reason) (text : List ℕ) (r : Option Signed) → is_some r ≡ true → HasText chain key (part.Reject reason) text r → HasKind chain key Reject text r
-rejecting-some chain key reason text None e h = absurd (cc e)
-rejecting-some chain key reason text (Some signed) e h = rejecting-kind chain key reason text signed h
-
-pub not-some : (chain : Chained) (key : List ℕ) (q : Part) (text : List ℕ) (r : Option Signed) → is_some r ≡ false → HasText chain key q text r → HasText chain key q text None
-not-some chain key q text None e h = h
-not-some chain key q text (Some signed) e h = absurd (cc e)
-
--- a message of a kind that says nothing else
-pub plain-kind : (chain : Chained) (key : List ℕ) (kind : Kind) (text : List ℕ) (r : Option Signed) → IsTrue (is_plain kind) → HasText chain key (part.Plain kind) text r → HasKind chain key kind text r
-plain-kind chain key kind text None plain h = λ q f k e. h (e ∙ ap (λ x. (next_signed chain key x).text) (part-of-kind kind q plain f k))
-plain-kind chain key kind text (Some signed) plain h = (part.Plain kind, plain, refl, h)
 
 -- ---- the first record
 

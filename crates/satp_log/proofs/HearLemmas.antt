@@ -1,10 +1,9 @@
 -- Which texts are heard, and the first fault of those that aren't.
-use Rattle.std.proofs.Common.{◌≡◌, ◌≢◌, ◌⊎◌, inl, inr, ◌≤◌, ℕ, true, false, List, length, Option, Some, None, refl, sym, ap, subst, ◌∙◌, arith, MatchResult, Result, Ok, Err}
+use Rattle.std.proofs.Common.{◌≡◌, ◌≢◌, ◌⊎◌, inl, inr, ◌≤◌, ℕ, true, false, List, length, Some, None, refl, sym, ap, ◌∙◌, arith}
 use Rattle.std.specs.Str.{bytes_eq}
 use Rattle.std.proofs.lemmas.Slice.Eq.{bytes_eq-Decides}
 use Rattle.base64.specs.GeneralPurpose.{IsBytes}
 use Rattle.satp_base.specs.Canonical.{IsText, canonical}
-use Rattle.satp_base.specs.Faults.{or_else}
 use Rattle.satp_base.specs.Forms.{IsMessage}
 use Rattle.satp_base.specs.Signatures.{jws, own, own_header}
 use Rattle.satp_base.specs.declared.message.Message.{Message}

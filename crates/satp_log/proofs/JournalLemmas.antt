@@ -1,7 +1,8 @@
 -- Payloads are the journal of one gateway, and it goes on by the records that may come.
-use Rattle.std.proofs.Common.{◌≡◌, ◌≢◌, ◌⊎◌, inl, inr, ◌<◌, ◌≤◌, ◌+◌, ◌-◌, ℕ, zero, suc, true, List, [], ◌∷◌, ◌++◌, length, map, take, drop, Some, IsTrue, refl, sym, ap, ap₂, subst, ◌∙◌, arith, take-append-drop}
+use Rattle.std.proofs.Common.{◌≡◌, ◌≢◌, ◌⊎◌, ◌<◌, inl, inr, ◌+◌, ◌-◌, ℕ, zero, suc, List, [], ◌∷◌, ◌++◌, map, take, drop, Some, IsTrue, refl, sym, ap, ap₂, subst, ◌∙◌, arith, take-append-drop}
 use Rattle.std.specs.List.{AllByRecursion, take-map}
-use Rattle.std.proofs.lemmas.List.{append-nil, map-append}
+use Rattle.std.proofs.lemmas.Bool.{cases_lt}
+use Rattle.std.proofs.lemmas.List.{map-append, take-take}
 use Rattle.satp_base.specs.Forms.{is_entry, is_entry_byte}
 use Rattle.satp_base.specs.Tales.{maker}
 use Rattle.satp_base.specs.declared.message.Kind.{Kind}
@@ -10,7 +11,7 @@ use Rattle.satp_base.specs.declared.message.Role.{Role}
 use Rattle.satp_base.specs.declared.record.Rec.{Rec}
 use Rattle.satp_base.specs.declared.record.Rec.TheVariants.{Began, Took, Made, Did, Chose, Rescue}
 use Rattle.satp_base.proofs.Forms.{form_parts}
-use Rattle.satp_records.specs.Formats.{IsFormed, IsFormedRec, IsMessageText, is_answer, payload_of}
+use Rattle.satp_records.specs.Formats.{IsFormedRec, IsMessageText, is_answer, payload_of}
 use Rattle.satp_records.specs.declared.stored.Setup.{Setup}
 use Rattle.satp_records.specs.declared.stored.Stored.{Stored as Journaled}
 use Rattle.satp_records.specs.declared.stored.Stored.TheVariants as journaled
@@ -20,7 +21,7 @@ use Rattle.satp_sides.specs.Logs.{IsLog, MayCome}
 use Rattle.satp_sides.specs.Points.{Party, Stored}
 use Rattle.satp_sides.proofs.LogLaw.{log-all, log-grows}
 use Rattle.satp_sides.proofs.LogTexts.{log-texts}
-use Rattle.satp_log.specs.Journals.{GoesOn, IsFirstRefused, IsJournal, IsSomeJournal, JournalsGoOn, NoneRefused, OneJournal, PrefixesAreJournals, party_of, payload_in, payloads_of}
+use Rattle.satp_log.specs.Journals.{IsFirstRefused, IsJournal, IsSomeJournal, JournalsGoOn, NoneRefused, OneJournal, OneRefused, PrefixesAreJournals, party_of, payload_in, payloads_of}
 
 -- ---- records of a log can be stored
 
@@ -127,6 +128,17 @@ no-empty setup xs e = cc e
 pub none-refused : NoneRefused
 none-refused payloads (setup, xs, j) =
     (λ e. no-empty setup xs (sym e ∙ j.list), λ index refused. refused.refused (setup, take (index + 1 - 1) xs, prefixes payloads setup xs (index + 1) j (omega arith)))
+
+refused-later : (payloads : List (List ℕ)) (a b : ℕ) → a < b → IsFirstRefused payloads a → (b ≡ 0) ⊎ IsSomeJournal (take b payloads) → ⊥
+refused-later payloads a b w first (inl e) = omega (arith, w, e)
+refused-later payloads a b w first (inr (setup, xs, j)) =
+    first.refused (setup, take (a + 1 - 1) xs, subst (λ ps. IsJournal ps setup (take (a + 1 - 1) xs)) (take-take (a + 1) b payloads (omega (arith, w))) (prefixes (take b payloads) setup xs (a + 1) j (omega arith)))
+
+pub one-refused : OneRefused
+one-refused payloads a b first other = elim (cases_lt a b) [
+  | inl w ↦ absurd (refused-later payloads a b w first other.before)
+  | inr v ↦ elim (cases_lt b a) [ inl w ↦ absurd (refused-later payloads b a w other first.before) | inr w ↦ omega (arith, v, w) ]
+]
 
 -- ---- a payload more
 

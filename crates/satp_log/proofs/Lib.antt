@@ -4,3 +4,5 @@ pub mod Folds
 pub mod JournalLemmas
 pub mod Entries
 pub mod LogLemmas
+pub mod AddLemmas
+pub mod ReadLemmas

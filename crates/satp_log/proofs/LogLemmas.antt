@@ -1,14 +1,12 @@
 -- A log holds what the records say, with one record more.
-use Rattle.std.proofs.Common.{◌≡◌, ◌≢◌, ◌⊎◌, inl, inr, ◌<◌, ◌≤◌, ◌+◌, ◌-◌, ℕ, zero, suc, Bool, true, false, cond, get_or, List, [], ◌∷◌, ◌++◌, length, map, take, Option, Some, None, IsTrue, refl, sym, ap, ap₂, subst, ◌∙◌, arith}
-use Rattle.std.specs.Prelude.{filter, slice_get, option_map, option_and_then, nat_lt, Result, Ok, Err, IfOk, if◌then◌else◌}
+use Rattle.std.proofs.Common.{◌≡◌, ◌≢◌, inl, inr, ◌<◌, ◌+◌, ℕ, zero, suc, Bool, true, false, cond, get_or, List, [], ◌∷◌, ◌++◌, length, map, Option, Some, None, refl, sym, ap, ap₂, subst, ◌∙◌}
+use Rattle.std.specs.Prelude.{filter, slice_get, option_map, option_and_then, nat_lt, Result, Ok, Err, IfOk}
 use Rattle.std.specs.List.{AllByRecursion}
 use Rattle.std.proofs.lemmas.Bool.{ltb-true}
 use Rattle.std.proofs.lemmas.List.{append-nil, map-append, length_push}
 use Rattle.std.proofs.lemmas.List.Elements.{filter-append}
 use Rattle.satp_base.specs.Views.{view_of}
 use Rattle.satp_base.specs.declared.message.Role.{Role}
-use Rattle.satp_base.specs.declared.message.Role.TheVariants.{Origin, Recipient}
-use Rattle.satp_base.specs.declared.message.Terms.{Terms}
 use Rattle.satp_base.specs.declared.record.Rec.{Rec}
 use Rattle.satp_base.specs.declared.record.Rec.TheVariants.{Began, Took, Made, Did, Chose, Rescue}
 use Rattle.satp_base.specs.declared.session.SessionId.{SessionId}
@@ -21,12 +19,11 @@ use Rattle.satp_records.specs.declared.stored.Setup.{Setup}
 use Rattle.satp_records.specs.declared.stored.Stored.{Stored as Journaled}
 use Rattle.satp_records.specs.declared.stored.Stored.TheVariants as journaled
 use Rattle.satp_sides.specs.Logs.{IsLog, MayCome}
-use Rattle.satp_sides.specs.Points.{Party, Slot, Stored, Text, began_as, begun, chain_in, is_session, most_sessions, records_of, slot, slot_in, stored, view_in}
-use Rattle.satp_sides.proofs.Bounds.{not-begun}
+use Rattle.satp_sides.specs.Points.{Party, Slot, Stored, Text, began_as, begun, chain_in, is_session, records_of, slot, stored, view_in}
 use Rattle.satp_sides.proofs.LogLaw.{log-all, log-grows}
 use Rattle.satp_sides.proofs.Records.{chain-apart, is-session, records-apart, session-self, view-apart, view-first, view-here}
-use Rattle.satp_log.specs.Folding.{BeginAnswers, HasRoom, IsStateOf, State}
-use Rattle.satp_log.specs.Journals.{IsJournal, IsSomeJournal, party_of}
+use Rattle.satp_log.specs.Folding.{IsStateOf, State}
+use Rattle.satp_log.specs.Journals.{IsJournal, party_of}
 use Rattle.satp_log.specs.Logged.{AllHeld, BeginsLog, IsPlaceOf, LogHolds, LogState, begins, sessions_in, sessions_of, text_in}
 use Rattle.satp_log.specs.declared.fault.Misfit.{Misfit}
 use Rattle.satp_log.specs.declared.fault.Misfit.TheVariants.{Refused, Memory}
@@ -46,7 +43,7 @@ is-not t s n = go (is_session t s) refl
     go true e = absurd (n (is-session t s e))
     go false e = refl
 
-state-apart : (p : Party) (xs : List Stored) (t s : SessionId) (r : Rec) (text : Text) (state : State) → t ≢ s → IsStateOf p t xs state → IsStateOf p t (xs ++ stored s r text ∷ []) state
+pub state-apart : (p : Party) (xs : List Stored) (t s : SessionId) (r : Rec) (text : Text) (state : State) → t ≢ s → IsStateOf p t xs state → IsStateOf p t (xs ++ stored s r text ∷ []) state
 state-apart p xs t s r text state n h =
     let apart = is-not t s n in
     record {
@@ -57,14 +54,14 @@ state-apart p xs t s r text state n h =
       sound = h.sound;
     }
 
-abbrev Others : SessionId → List Held → Type 0
+abbrev pub Others : SessionId → List Held → Type 0
 Others s hs = AllByRecursion (λ (h : Held). h.session ≢ s) hs
 
-held-apart : (p : Party) (xs : List Stored) (s : SessionId) (r : Rec) (text : Text) (hs : List Held) → Others s hs → AllHeld p xs hs → AllHeld p (xs ++ stored s r text ∷ []) hs
+pub held-apart : (p : Party) (xs : List Stored) (s : SessionId) (r : Rec) (text : Text) (hs : List Held) → Others s hs → AllHeld p xs hs → AllHeld p (xs ++ stored s r text ∷ []) hs
 held-apart p xs s r text [] n h = tt
 held-apart p xs s r text (x ∷ hs) n h = (state-apart p xs x.session s r text x.state n.0 h.0, held-apart p xs s r text hs n.1 h.1)
 
-held-more : (p : Party) (xs : List Stored) (hs : List Held) (h : Held) → AllHeld p xs hs → IsStateOf p h.session xs h.state → AllHeld p xs (hs ++ h ∷ [])
+pub held-more : (p : Party) (xs : List Stored) (hs : List Held) (h : Held) → AllHeld p xs hs → IsStateOf p h.session xs h.state → AllHeld p xs (hs ++ h ∷ [])
 held-more p xs [] h all one = (one, tt)
 held-more p xs (x ∷ hs) h all one = (all.0, held-more p xs hs h all.1 one)
 
@@ -78,7 +75,7 @@ others-in s (x ∷ hs) n = (n.0, others-in s hs n.1)
 
 -- ---- sessions that no record begins
 
-abbrev NotIn : SessionId → List SessionId → Type 0
+abbrev pub NotIn : SessionId → List SessionId → Type 0
 NotIn s ss = AllByRecursion (λ t. t ≢ s) ss
 
 kept : Bool → Stored → List Stored → List SessionId
@@ -92,6 +89,11 @@ rest-in s x xs false e n = subst (λ c. NotIn s (kept c x xs)) e n
 began-in : (s : SessionId) (x : Stored) (xs : List Stored) → begins x.rec ≡ true → NotIn s (sessions_in (x ∷ xs)) → x.session ≢ s
 unfolding kept
 began-in s x xs e n = (subst (λ c. NotIn s (kept c x xs)) e n).0
+
+pub new-kept : (s : SessionId) (x : Stored) (xs : List Stored) (b : Bool) → begins x.rec ≡ b → x.session ≢ s → NotIn s (sessions_in xs) → NotIn s (sessions_in (x ∷ xs))
+unfolding kept
+new-kept s x xs true e d n = subst (λ c. NotIn s (kept c x xs)) (sym e) (d, n)
+new-kept s x xs false e d n = subst (λ c. NotIn s (kept c x xs)) (sym e) n
 
 head-view : (r : Rec) (rs : List Rec) → (begins r ≡ true → ⊥) → view_of (r ∷ rs) ≡ None
 head-view (Began role terms) rs n = absurd (n refl)
@@ -111,7 +113,7 @@ pub no-view : (s : SessionId) (xs : List Stored) → NotIn s (sessions_in xs) �
 no-view s [] n = refl
 no-view s (x ∷ xs) n = view-cons s x xs (is_session s x.session) refl n (no-view s xs (rest-in s x xs (begins x.rec) refl n))
 
-none-some : (v : View) → None ≡ Some v → ⊥
+pub none-some : (v : View) → None ≡ Some v → ⊥
 none-some v e = cc e
 
 -- in a log a session without a view has no records
@@ -147,20 +149,31 @@ unnamed p s xs log = log-all p (Unseen s) (λ e. refl) (λ ys y l old m. unseen-
 
 -- ---- counts
 
-one-begun : (role : Role) (xs : List Stored) (x : Stored) → began_as role x.rec ≡ true → begun role (xs ++ x ∷ []) ≡ begun role xs + 1
+pub one-begun : (role : Role) (xs : List Stored) (x : Stored) → began_as role x.rec ≡ true → begun role (xs ++ x ∷ []) ≡ begun role xs + 1
 one-begun role xs x y =
     ap length (filter-append (λ (z : Stored). began_as role z.rec) xs (x ∷ []))
     ∙ ap (λ b. length (filter (λ (z : Stored). began_as role z.rec) xs ++ cond b (x ∷ []) [])) y
     ∙ length_push (filter (λ (z : Stored). began_as role z.rec) xs) x
 
-sessions-more : (s : SessionId) (r : Rec) (text : Text) (xs : List Stored) → begins r ≡ true → sessions_in (xs ++ stored s r text ∷ []) ≡ sessions_in xs ++ s ∷ []
-sessions-more s r text xs b =
-    ap (map (λ (y : Stored). y.session)) (filter-append (λ (y : Stored). begins y.rec) xs (stored s r text ∷ []) ∙ ap (λ c. filter (λ (y : Stored). begins y.rec) xs ++ cond c (stored s r text ∷ []) []) b)
-    ∙ map-append (λ (y : Stored). y.session) (filter (λ (y : Stored). begins y.rec) xs) (stored s r text ∷ [])
+pub under : (a most : ℕ) → nat_lt a most ≡ true → a < most
+under a most e = ltb-true a most e
+
+-- ---- sessions with one record more
+
+sessions-grown : (xs : List Stored) (x : Stored) → sessions_in (xs ++ x ∷ []) ≡ sessions_in xs ++ map (λ (y : Stored). y.session) (cond (begins x.rec) (x ∷ []) [])
+sessions-grown xs x =
+    ap (map (λ (y : Stored). y.session)) (filter-append (λ (y : Stored). begins y.rec) xs (x ∷ []))
+    ∙ map-append (λ (y : Stored). y.session) (filter (λ (y : Stored). begins y.rec) xs) (cond (begins x.rec) (x ∷ []) [])
+
+pub sessions-more : (xs : List Stored) (x : Stored) → begins x.rec ≡ true → sessions_in (xs ++ x ∷ []) ≡ sessions_in xs ++ x.session ∷ []
+sessions-more xs x b = sessions-grown xs x ∙ ap (λ c. sessions_in xs ++ map (λ (y : Stored). y.session) (cond c (x ∷ []) [])) b
+
+pub sessions-same : (xs : List Stored) (x : Stored) → begins x.rec ≡ false → sessions_in (xs ++ x ∷ []) ≡ sessions_in xs
+sessions-same xs x b = sessions-grown xs x ∙ ap (λ c. sessions_in xs ++ map (λ (y : Stored). y.session) (cond c (x ∷ []) [])) b ∙ append-nil (sessions_in xs)
 
 -- ---- the first payload
 
-abbrev Decodes : List ℕ → Result Journaled RecordFault → Type 0
+abbrev pub Decodes : List ℕ → Result Journaled RecordFault → Type 0
 Decodes payload result = (x : Journaled) → IsFormed x → payload ≡ payload_of x → UnlessMemory result (Ok x)
 
 head-is : (a b : List ℕ) (y : List (List ℕ)) → a ∷ [] ≡ b ∷ y → a ≡ b
@@ -172,7 +185,7 @@ not-ok f x e = cc e
 err-is : (f g : RecordFault) → ◌≡◌ {A = Result Journaled RecordFault} (Err f) (Err g) → f ≡ g
 err-is f g e = cc e
 
-no-record : (payload : List ℕ) (result : Result Journaled RecordFault) (f : RecordFault) → result ≡ Err f → Decodes payload result → (f ≡ decoding.Memory → ⊥) → (x : Journaled) → IsFormed x → payload ≡ payload_of x → ⊥
+pub no-record : (payload : List ℕ) (result : Result Journaled RecordFault) (f : RecordFault) → result ≡ Err f → Decodes payload result → (f ≡ decoding.Memory → ⊥) → (x : Journaled) → IsFormed x → payload ≡ payload_of x → ⊥
 no-record payload result f is only some x formed e = elim (only x formed e) [ inl q ↦ not-ok f x (sym is ∙ q) | inr q ↦ some (err-is f decoding.Memory (sym is ∙ q)) ]
 
 pub begin-err : (payload : List ℕ) (result : Result Journaled RecordFault) (f : RecordFault) (m : Misfit) → result ≡ Err f → Decodes payload result → (f ≡ decoding.Memory → m ≡ Memory) → (f ≢ decoding.Memory → m ≡ Refused) → BeginsLog payload (Err m)
@@ -206,7 +219,7 @@ begin-ok payload result x setup entries is what found none =
 -- ---- looking up
 
 module _ (log : LogState) (setup : Setup) (xs : List Stored) (s : SessionId) (h : LogHolds log setup xs) where
-  state-at : (hs : List Held) (i : ℕ) (k : Held) → AllHeld (party_of setup) xs hs → slice_get hs i ≡ Some k → IsStateOf (party_of setup) k.session xs k.state
+  pub state-at : (hs : List Held) (i : ℕ) (k : Held) → AllHeld (party_of setup) xs hs → slice_get hs i ≡ Some k → IsStateOf (party_of setup) k.session xs k.state
   state-at [] i k all e = absurd (cc e)
   state-at (x ∷ hs) zero k all e = let same : x ≡ k = cc e in subst (λ (y : Held). IsStateOf (party_of setup) y.session xs y.state) same all.0
   state-at (x ∷ hs) (suc i) k all e = state-at hs i k all.1 e

@@ -45,6 +45,10 @@ OneJournal =
 abbrev pub NoneRefused : Type 0
 NoneRefused = (payloads : List (List ℕ)) → IsSomeJournal payloads → (payloads ≡ [] → ⊥) × ((index : ℕ) → IsFirstRefused payloads index → ⊥)
 
+-- at most one payload is the first that is refused
+abbrev pub OneRefused : Type 0
+OneRefused = (payloads : List (List ℕ)) (a b : ℕ) → IsFirstRefused payloads a → IsFirstRefused payloads b → a ≡ b
+
 -- A gateway's first payloads, one at least, are its journal with its first records.
 abbrev pub PrefixesAreJournals : Type 0
 PrefixesAreJournals =

@@ -1,14 +1,17 @@
 -- What a log holds of a journal's records, and what its calls answer.
-use Rattle.std.specs.Prelude.{◌≡◌, ◌≢◌, ◌<◌, ◌+◌, ℕ, List, [], ◌∷◌, ◌++◌, map, filter, slice_get, Bool, true, false, Option, Some, None, option_and_then, Result, Ok, Err, nat_lt, if◌then◌else◌}
+use Rattle.std.specs.Prelude.{◌≡◌, ◌≢◌, ◌+◌, ℕ, List, [], ◌∷◌, ◌++◌, map, take, filter, slice_get, Bool, true, false, Option, Some, None, option_and_then, Result, Ok, Err, nat_lt, if◌then◌else◌}
 use Rattle.satp_base.specs.declared.message.Role.TheVariants.{Origin, Recipient}
 use Rattle.satp_base.specs.declared.record.Rec.{Rec}
-use Rattle.satp_base.specs.declared.record.Rec.TheVariants.{Began, Took, Made, Did, Chose, Rescue}
+use Rattle.satp_base.specs.declared.record.Rec.TheVariants.{Began}
 use Rattle.satp_base.specs.declared.session.SessionId.{SessionId}
 use Rattle.satp_records.specs.declared.stored.Setup.{Setup}
 use Rattle.satp_sides.specs.Calls.{text_of}
-use Rattle.satp_sides.specs.Points.{Party, Slot, Stored, begun, slot_in}
+use Rattle.satp_sides.specs.Logs.{MayCome}
+use Rattle.satp_sides.specs.Points.{Party, Slot, Stored, begun, most_sessions, slot_in, stored}
 use Rattle.satp_log.specs.Folding.{IsStateOf}
-use Rattle.satp_log.specs.Journals.{IsJournal, IsSomeJournal, party_of}
+use Rattle.satp_log.specs.Journals.{IsFirstRefused, IsJournal, IsSomeJournal, party_of}
+use Rattle.satp_log.specs.declared.fault.LogFault.{LogFault}
+use Rattle.satp_log.specs.declared.fault.LogFault.TheVariants as fault
 use Rattle.satp_log.specs.declared.fault.Misfit.{Misfit}
 use Rattle.satp_log.specs.declared.fault.Misfit.TheVariants as misfit
 use Rattle.satp_log.specs.declared.held.Held.{Held}
@@ -58,9 +61,47 @@ BeginsLog payload (Ok log) = (setup : Setup) × IsJournal (payload ∷ []) setup
 BeginsLog payload (Err misfit.Refused) = IsSomeJournal (payload ∷ []) → ⊥
 BeginsLog payload (Err misfit.Memory) = Unit {0}
 
+-- Ok: with the payload they are a journal with one record more, and the log holds that. Refused: with it they are no gateway's journal, and the log is as it was.
+abbrev pub AddsTo : List (List ℕ) → Setup → List Stored → List ℕ → LogState → LogState → Result (Unit {0}) Misfit → Type 0
+AddsTo payloads setup xs payload old new (Ok done) = (x : Stored) × IsJournal (payloads ++ payload ∷ []) setup (xs ++ x ∷ []) × LogHolds new setup (xs ++ x ∷ [])
+AddsTo payloads setup xs payload old new (Err misfit.Refused) = (IsSomeJournal (payloads ++ payload ∷ []) → ⊥) × (new ≡ old)
+AddsTo payloads setup xs payload old new (Err misfit.Memory) = new ≡ old
+
+-- the same of a record
+abbrev pub AddsRecord : Setup → List Stored → SessionId → Rec → List ℕ → LogState → LogState → Result (Unit {0}) Misfit → Type 0
+AddsRecord setup xs s r text old new (Ok done) = MayCome (party_of setup) xs (stored s r text) × LogHolds new setup (xs ++ stored s r text ∷ [])
+AddsRecord setup xs s r text old new (Err misfit.Refused) = (MayCome (party_of setup) xs (stored s r text) → ⊥) × (new ≡ old)
+AddsRecord setup xs s r text old new (Err misfit.Memory) = new ≡ old
+
+-- Ok: they are a gateway's journal, which the log holds. Empty: there are none. Record: the one at the index is the first that may not stand there.
+abbrev pub LogReads : List (List ℕ) → Result LogState LogFault → Type 0
+LogReads payloads (Ok log) = (setup : Setup) × (xs : List Stored) × IsJournal payloads setup xs × LogHolds log setup xs
+LogReads payloads (Err fault.Empty) = payloads ≡ []
+LogReads payloads (Err (fault.Record index)) = IsFirstRefused payloads index
+LogReads payloads (Err fault.Memory) = Unit {0}
+
 -- ---- helpers of the code
+
+-- the log holds the journal that the first payloads are, so many of them
+abbrev pub HoldsFirst : List (List ℕ) → ℕ → LogState → Type 0
+HoldsFirst payloads n log = (setup : Setup) × (xs : List Stored) × IsJournal (take n payloads) setup xs × LogHolds log setup xs
+
+-- Ok: the log holds the first payload. A fault is that of the payloads.
+abbrev pub ReadsFirst : List (List ℕ) → Result LogState LogFault → Type 0
+ReadsFirst payloads (Ok log) = HoldsFirst payloads 1 log
+ReadsFirst payloads (Err e) = LogReads payloads (Err e)
+
+abbrev pub fault_at : Misfit → ℕ → LogFault
+fault_at misfit.Refused index = fault.Record index
+fault_at misfit.Memory index = fault.Memory
 
 -- the index of the session's entry; none where no entry is of the session
 abbrev pub IsPlaceOf : List Held → SessionId → Option ℕ → Type 0
 IsPlaceOf hs s (Some i) = (h : Held) × (slice_get hs i ≡ Some h) × (h.session ≡ s)
 IsPlaceOf hs s None = (i : ℕ) (h : Held) → slice_get hs i ≡ Some h → h.session ≢ s
+
+-- the counts with a session that the record begins; none where it is one too many of its role
+abbrev pub counts_with : Rec → ℕ → ℕ → Option (ℕ × ℕ)
+counts_with (Began Origin terms) started accepted = if nat_lt started most_sessions then Some (started + 1, accepted) else None
+counts_with (Began Recipient terms) started accepted = if nat_lt accepted most_sessions then Some (started, accepted + 1) else None
+counts_with r started accepted = Some (started, accepted)

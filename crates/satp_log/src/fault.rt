@@ -34,3 +34,14 @@ impl From<Memory> for Misfit {
         Misfit::Memory
     }
 }
+
+/// Why payloads are no gateway's journal.
+#[derive(Clone, Copy, Debug, PartialEq, Eq)]
+pub enum LogFault {
+    /// There is none.
+    Empty,
+    /// The one at this index, from 0, is the first that may not stand there.
+    Record { index: usize },
+    /// No memory was found.
+    Memory,
+}

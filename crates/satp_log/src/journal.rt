@@ -1,19 +1,25 @@
-ghost use Rattle.std.specs.Prelude.{◌≡◌, ◌≢◌, ℕ, List, Some, None, slice_get};
+ghost use Rattle.std.specs.Prelude.{◌≡◌, ◌≢◌, ◌<◌, ℕ, List, Some, None, IfErr, length, slice_get};
 ghost use Rattle.std.specs.Option.{option_copied};
+ghost use Rattle.satp_sides.specs.Logs.{IsLog};
 ghost use Rattle.satp_sides.specs.Points.{Stored as StoredOf, view_in};
 ghost use Rattle.satp_sides.specs.Calls.{text_of};
 ghost use Rattle.satp_chain.specs.Chained.{texts_in};
 ghost use Rattle.satp_records.specs.declared.stored.Setup.{Setup};
-ghost use Rattle.satp_log.specs.Logged.{BeginsLog, LogHolds, sessions_in, text_in};
+ghost use Rattle.satp_log.specs.Journals.{IsJournal, IsSomeJournal, party_of};
+ghost use Rattle.satp_log.specs.Logged.{AddsRecord, AddsTo, BeginsLog, IsPlaceOf, LogHolds, LogReads, ReadsFirst, counts_with, fault_at, sessions_in, text_in};
 
-use crate::fault::Misfit;
+use crate::fault::{LogFault, Misfit};
 use crate::held::{Held, place_of};
-use satp_base::{SessionId, View};
+use crate::state::SessionState;
+use satp_base::{Rec, Role, SessionId, Texts, View};
 use satp_chain::Chain;
 use satp_jws::Key;
 use satp_records::{RecordFault, Setup, Stored, decode};
 use std::alloc::Global;
 use std::marker::Model;
+
+/// The most sessions that a gateway begins in each role.
+const MOST_SESSIONS: u32 = 2048;
 
 /// What the records of a gateway's journal say: who the gateway is, and its sessions in the order of their first records.
 #[derive(Drop)]
@@ -57,6 +63,100 @@ impl Log {
                 accepted: 0,
             }),
             Err(_) => unreachable!(),
+        }
+    }
+
+    /// The log of a gateway's journal: of its payloads, read in their order.
+    ///
+    /// `Empty` comes exactly where there are none. `Record` comes with the index, from 0, of the first payload that may not stand there, and only where there is one.
+    /// So a gateway's journal is read unless no memory is found.
+    pub fn read(alloc: Global, payloads: &Texts) -> Result<Log, LogFault>
+        ensures reads { LogReads payloads.now result }
+        ensures journal { IsSomeJournal payloads.now → IfErr result (λ fault. fault ≡ LogFault.Memory) }
+    {
+        let mut log = Log::first(alloc, payloads)?;
+        for index in 1..payloads.length() {
+            if let Err(misfit) = log.add(alloc, payload_at(payloads, index)) {
+                return Err(fault_at(misfit, index));
+            }
+        }
+        Ok(log)
+    }
+
+    /// The log of the first payload.
+    fn first(alloc: Global, payloads: &Texts) -> Result<Log, LogFault>
+        ensures { ReadsFirst payloads.now result }
+    {
+        match payloads.get(0) {
+            Some(payload) => match Log::begin(alloc, payload.bytes()) {
+                Ok(log) => Ok(log),
+                Err(misfit) => Err(fault_at(misfit, 0)),
+            },
+            None => Err(LogFault::Empty),
+        }
+    }
+
+    /// One record more.
+    ///
+    /// `Refused` comes exactly where the payloads with this one are no gateway's journal. It leaves the log as it was, and so does want of memory.
+    pub fn add(&mut self, alloc: Global, payload: &[u8]) -> Result<(), Misfit>
+        ensures { (payloads : List (List ℕ)) (setup : Setup) (xs : List StoredOf) → IsJournal payloads setup xs → LogHolds self.old setup xs → AddsTo payloads setup xs payload.now self.old self.new result }
+    {
+        match decode(alloc, payload) {
+            Ok(stored) => match &stored {
+                Stored::Session { session, rec, text } => {
+                    self.add_record(alloc, *session, rec, text.bytes())
+                }
+                _ => Err(Misfit::Refused),
+            },
+            Err(fault) => Err(misfit_of(fault)),
+        }
+    }
+
+    fn add_record(
+        &mut self,
+        alloc: Global,
+        session: SessionId,
+        rec: &Rec,
+        text: &[u8],
+    ) -> Result<(), Misfit>
+        ensures { (setup : Setup) (xs : List StoredOf) → IsLog (party_of setup) xs → LogHolds self.old setup xs → AddsRecord setup xs session rec.now text.now self.old self.new result }
+    {
+        match place_of(self.entries.as_slice(), session) {
+            Some(index) => match self.entries.get_mut(index) {
+                Some(held) => held.state.add(alloc, &self.key, rec, text),
+                None => unreachable!(),
+            },
+            None => self.add_session(alloc, session, rec, text),
+        }
+    }
+
+    /// The first record of a session that no record names.
+    fn add_session(
+        &mut self,
+        alloc: Global,
+        session: SessionId,
+        rec: &Rec,
+        text: &[u8],
+    ) -> Result<(), Misfit>
+        requires { IsPlaceOf self.old.entries session None }
+        ensures { (setup : Setup) (xs : List StoredOf) → IsLog (party_of setup) xs → LogHolds self.old setup xs → AddsRecord setup xs session rec.now text.now self.old self.new result }
+    {
+        let Some((started, accepted)) = counts_with(rec, self.started, self.accepted) else {
+            return Err(Misfit::Refused);
+        };
+        let name = self.setup.name;
+        let peer = self.setup.peer;
+        match SessionState::begin(alloc, name, peer, &self.key, session, rec, text) {
+            Ok(state) => match self.entries.push(Held { session, state }) {
+                Ok(()) => {
+                    self.started = started;
+                    self.accepted = accepted;
+                    Ok(())
+                }
+                Err(_) => Err(Misfit::Memory),
+            },
+            Err(misfit) => Err(misfit),
         }
     }
 
@@ -110,6 +210,50 @@ fn text_at(chain: &Chain, place: u8) -> Option<&[u8]>
     match chain.entry(place) {
         Some(signed) => Some(signed.text.bytes()),
         None => None,
+    }
+}
+
+/// The counts with a session that the record begins; none where it is one too many of its role.
+fn counts_with(rec: &Rec, started: u32, accepted: u32) -> Option<(u32, u32)>
+    ensures { result ≡ counts_with rec.now started accepted }
+{
+    match *rec {
+        Rec::Began(Role::Origin, _) => {
+            if started < MOST_SESSIONS {
+                Some((started + 1, accepted))
+            } else {
+                None
+            }
+        }
+        Rec::Began(Role::Recipient, _) => {
+            if accepted < MOST_SESSIONS {
+                Some((started, accepted + 1))
+            } else {
+                None
+            }
+        }
+        _ => Some((started, accepted)),
+    }
+}
+
+/// The payload at an index below their number.
+fn payload_at(payloads: &Texts, index: usize) -> &[u8]
+    requires { index < length payloads.now }
+    ensures { slice_get payloads.now index ≡ Some result.now }
+{
+    match payloads.get(index) {
+        Some(payload) => payload.bytes(),
+        None => unreachable!(),
+    }
+}
+
+/// The fault of a payload at an index that isn't added.
+fn fault_at(misfit: Misfit, index: usize) -> LogFault
+    ensures { result ≡ fault_at misfit index }
+{
+    match misfit {
+        Misfit::Refused => LogFault::Record { index },
+        Misfit::Memory => LogFault::Memory,
     }
 }
 

@@ -8,7 +8,7 @@ mod journal;
 mod laws;
 mod state;
 
-pub use fault::{Misfit, Unheard};
+pub use fault::{LogFault, Misfit, Unheard};
 pub use hearing::hear;
 pub use journal::Log;
 pub use laws::law_journals;

@@ -1,9 +1,8 @@
-use Rattle.std.proofs.Common.{◌∙◌, sym, ap, true, false, inl, inr}
+use Rattle.std.proofs.Common.{◌∙◌, sym, ap, inl, inr}
 use Rattle.std.specs.Str.{bytes_eq}
 use Rattle.satp_base.specs.Canonical.{canonical}
 use Rattle.satp_base.specs.Signatures.{own_header}
 use Rattle.satp_canon.specs.FirstFault.{first_fault}
-use Rattle.satp_jws.specs.Faults.{payload_of}
 use Rattle.satp_jws.proofs.HeaderLemmas.{own_header_passes}
 use Rattle.satp_log.proofs.HearLemmas.{header_bytes, header_first, is_header, is_other_header, none_first, own_as, own_is, payload_bytes, payload_short, short_as, unread_first, unverified_first}
 use Rattle.satp_log.proofs.hearing.hear.Goals as goal

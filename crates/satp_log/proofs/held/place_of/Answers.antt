@@ -1,7 +1,6 @@
-use Rattle.std.proofs.Common.{sym, ap, ◌∙◌, subst, arith, Some, inl, inr, ◌≡◌}
+use Rattle.std.proofs.Common.{sym, ap, ◌∙◌, arith, inl, inr, ◌≡◌}
 use Rattle.std.specs.Prelude.{slice_get}
 use Rattle.std.proofs.lemmas.Bool.{cases_lt}
-use Rattle.satp_log.specs.declared.held.Held.{Held}
 use Rattle.satp_log.proofs.Entries.{get-within, entry-at}
 use Rattle.satp_log.proofs.Folds.{not-both}
 use Rattle.satp_log.proofs.held.place_of.Goals as goal

@@ -1,4 +1,4 @@
-use Rattle.satp_log.proofs.JournalLemmas.{journals-go-on, none-refused, one-journal, prefixes}
+use Rattle.satp_log.proofs.JournalLemmas.{journals-go-on, none-refused, one-journal, one-refused, prefixes}
 use Rattle.satp_log.proofs.laws.law_journals.Goals as goal
 
 pub returns-clause-one : goal.returns-clause-one
@@ -6,6 +6,9 @@ returns-clause-one c = one-journal
 
 pub returns-clause-none : goal.returns-clause-none
 returns-clause-none c = none-refused
+
+pub returns-clause-first : goal.returns-clause-first
+returns-clause-first c = one-refused
 
 pub returns-clause-prefixes : goal.returns-clause-prefixes
 returns-clause-prefixes c = prefixes

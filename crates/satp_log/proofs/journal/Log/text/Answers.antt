@@ -1,4 +1,4 @@
-use Rattle.std.proofs.Common.{◌∙◌, ap, sym, subst, Some, None}
+use Rattle.std.proofs.Common.{◌∙◌, ap, sym, subst}
 use Rattle.std.specs.Option.{option_copied}
 use Rattle.satp_log.specs.Logged.{IsPlaceOf, LogState}
 use Rattle.satp_log.proofs.LogLemmas.{no-text-is, text-is}

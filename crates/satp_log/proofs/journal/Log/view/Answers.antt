@@ -1,5 +1,4 @@
-use Rattle.std.proofs.Common.{◌∙◌, ap, sym, subst, Some, None}
-use Rattle.std.specs.Option.{option_copied}
+use Rattle.std.proofs.Common.{◌∙◌, ap, sym, subst}
 use Rattle.satp_log.specs.Logged.{IsPlaceOf, LogState}
 use Rattle.satp_log.proofs.LogLemmas.{no-view-is, view-is}
 use Rattle.satp_log.proofs.journal.Log.view.Goals as goal

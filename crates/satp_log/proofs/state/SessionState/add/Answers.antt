@@ -1,5 +1,5 @@
-use Rattle.std.proofs.Common.{subst, sym, Some, None, Ok, Err}
-use Rattle.satp_log.specs.Folding.{HasMessage, MessageAnswers, State}
+use Rattle.std.proofs.Common.{subst}
+use Rattle.satp_log.specs.Folding.{HasMessage, MessageAnswers}
 use Rattle.satp_log.proofs.Folds.{fits-chain, keeps, message-follows, not-both, sound-after, sound-noted, unheard, unruled, with-message, without-message}
 use Rattle.satp_log.proofs.state.SessionState.add.Goals as goal
 

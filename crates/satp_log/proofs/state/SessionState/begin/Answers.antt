@@ -1,8 +1,7 @@
-use Rattle.std.proofs.Common.{◌∙◌, sym, ap, subst, List, ℕ, ◌≡◌}
+use Rattle.std.proofs.Common.{◌∙◌, sym, ap, subst}
 use Rattle.satp_base.specs.Views.{begin}
 use Rattle.satp_base.specs.declared.message.Part.TheVariants.{Proposal}
-use Rattle.satp_base.specs.declared.name.Name.{Name}
-use Rattle.satp_chain.specs.Chained.{Chained, pushed}
+use Rattle.satp_chain.specs.Chained.{Chained}
 use Rattle.satp_sides.specs.LogLaws.{IsOfRole}
 use Rattle.satp_sides.specs.Points.{Party, recipient_at}
 use Rattle.satp_log.specs.Folding.{HasText, IsSound}

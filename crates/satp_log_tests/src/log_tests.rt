@@ -20,14 +20,14 @@ fn is_other(own: Option<&Text>, replaced: Option<&Text>) -> bool {
     }
 }
 
-/// The index of the first payload that may not stand, if any. A journal may end at each of its payloads after the first.
+/// The index of the first payload of the changed journal that may not stand there, if any. A journal may end after each of its payloads.
 fn wanted(journals: &Journals, change: Change, at: usize) -> Option<usize> {
     let last = journals.own.length().saturating_sub(1);
     match change {
         Change::Nothing => None,
         Change::Missing | Change::Exchanged => (at < last).then_some(at),
         Change::Doubled => Some(at.saturating_add(1)),
-        // a set-up is right at the first place, and wrong with the records of another
+        // At the first place a set-up may stand; it is the payload after it that may not.
         Change::SetUpAgain => Some(at.max(1)),
         Change::OtherKey | Change::OtherRole => {
             is_other(journals.own.get(at), journals.replaced(change, at)).then_some(at.max(1))

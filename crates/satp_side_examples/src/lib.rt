@@ -64,8 +64,8 @@ pub fn law_tested()
     ensures stored { DueIsStored }
 {}
 
-/// What may happen to two gateways, an honest text that is refused since it comes too early, and what a call says and
-/// leaves alone.
+/// What may happen to two gateways, honest texts that are refused since they come too early or too late, and what a call
+/// says and leaves alone.
 pub fn law_passing()
     ensures happen { EventsThatHappen }
     ensures outdated { TextsOutOfDate }

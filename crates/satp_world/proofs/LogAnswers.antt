@@ -5,20 +5,18 @@ use Rattle.std.proofs.lemmas.List.{append_assoc}
 use Rattle.satp_base.specs.Canonical.{part_kind}
 use Rattle.satp_base.specs.Chains.{head_of, name_of, next_text, role_at}
 use Rattle.satp_base.specs.Forms.{IsBody, IsMessage, IsPart, IsPlace}
-use Rattle.satp_base.specs.Roles.{IsReached, abort_of, both, negate, next_of, rescues}
+use Rattle.satp_base.specs.Roles.{abort_of, both, negate, next_of, rescues}
 use Rattle.satp_base.specs.Signatures.{own}
-use Rattle.satp_base.specs.Tales.{has, is_whole, last_by, other}
+use Rattle.satp_base.specs.Tales.{other}
 use Rattle.satp_base.specs.Verdicts.{body_verdict, place_verdict, verdict_on}
 use Rattle.satp_base.specs.Views.{begin}
 use Rattle.satp_base.proofs.RecordLaws.{rescue-allowed}
 use Rattle.satp_base.specs.declared.message.Body.{Body}
 use Rattle.satp_base.specs.declared.message.Body.TheVariants as body
-use Rattle.satp_base.specs.declared.message.Kind.TheVariants.{TransferProposal}
 use Rattle.satp_base.specs.declared.message.Link.{Link}
 use Rattle.satp_base.specs.declared.message.Message.{Message}
 use Rattle.satp_base.specs.declared.message.Part.{Part}
 use Rattle.satp_base.specs.declared.message.Part.TheVariants.{Proposal}
-use Rattle.satp_base.specs.declared.message.Role.{Role}
 use Rattle.satp_base.specs.declared.message.Role.TheVariants.{Origin, Recipient}
 use Rattle.satp_base.specs.declared.message.Terms.{Terms}
 use Rattle.satp_base.specs.declared.record.Rec.{Rec}
@@ -28,7 +26,6 @@ use Rattle.satp_base.specs.declared.session.SessionId.{SessionId}
 use Rattle.satp_base.specs.declared.verdict.Verdict.{Verdict}
 use Rattle.satp_base.specs.declared.verdict.Verdict.TheVariants as verdict
 use Rattle.satp_base.specs.declared.view.View.{View}
-use Rattle.satp_origin.proofs.Tales as origin
 use Rattle.satp_recovery.specs.Rounds.{answer_of, take_of}
 use Rattle.satp_recovery.specs.declared.choice.RecoveryFault.{RecoveryFault}
 use Rattle.satp_recovery.specs.declared.choice.Step.{Step}
@@ -45,28 +42,16 @@ use Rattle.satp_sides.specs.Points.{Move, Appends, Says, Party, Side, Slot, Stor
 use Rattle.satp_sides.specs.Said.{WasSaid}
 use Rattle.satp_sides.specs.Said.WasSaid.{Of_chain, Of_nothing}
 use Rattle.satp_sides.proofs.DueLaw.{due-rests}
-use Rattle.satp_sides.proofs.LogLaw.{log-sessions, reached-tale}
+use Rattle.satp_sides.proofs.LogLaw.{log-sessions}
 use Rattle.satp_sides.proofs.Records.{chain-here, chain-none, is-session, session-self, view-first}
 use Rattle.satp_sides.proofs.SaidLaw.{said-now}
 use Rattle.satp_world.specs.Effects.{AnswersWereSaid}
 use Rattle.satp_world.proofs.DueMoves.{SlotAt, note-long, one-more, slot-more, work-goes}
 use Rattle.satp_world.proofs.HearLaw.{begin-may, first-taken, is-again, next-taken, peer-place, role-one, took-may}
-use Rattle.satp_world.proofs.Replies.{again-says, last-own-says, last-says, origin-own, own-at-says, recipient-own, recover-says, update-says}
+use Rattle.satp_world.proofs.Replies.{again-says, last-own-says, last-says, own-at-says, recover-says, update-says}
 use Rattle.satp_world.proofs.RunHear.{addressed, begins-not, both-true, drop-nil, holds-by, near-by, next-is, not-true, of-peer, same-is}
 use Rattle.satp_world.proofs.RunLaw.{named-by}
 use Rattle.satp_world.proofs.WorkLaw.{slot-parts}
-
--- ---- the last message of a chain at rest
-
-own-last : (v : View) → IsReached v.role v → has TransferProposal v.tale ≡ true → Rests (next_of v.role v) → is_whole v.tale ≡ false → last_by v.role v.tale ≡ true
-own-last v k begun rest w = by v.role refl
-  where
-    by : (role : Role) → v.role ≡ role → last_by v.role v.tale ≡ true
-    by Origin e =
-        let h = subst (λ r. IsReached r v) e k in
-        let keeps = subst origin.Keeps (sym h.view) (origin.keeps_from (begin Origin h.terms) h.recs (origin.begins h.terms) h.allowed) in
-        ap (λ r. last_by r v.tale) e ∙ origin-own v keeps.tale begun keeps.ready (subst (λ r. Rests (next_of r v)) e rest) w
-    by Recipient e = ap (λ r. last_by r v.tale) e ∙ recipient-own v (reached-tale v.role v k) begun (subst (λ r. Rests (next_of r v)) e rest) w
 
 some-text : (o : Option Text) (t : Text) → ◌≡◌ {A = Option (Result (Option Text) Refusal)} (Some (Ok o)) (Some (Ok (Some t))) → o ≡ Some t
 some-text o t e = cc e
@@ -132,10 +117,7 @@ module _ (p : Party) where
         go (Some v) e = absurd (cc e)
 
   last-replies : (s : SessionId) (most : ℕ) → Replies s most last_unless_whole
-  last-replies s most side l at rest few t e =
-      let of = log-sessions p side.records at.log s l.view at.named in
-      let begun = ap (has TransferProposal) (sym of.chain.kinds) in
-      last-says p s side [] l at (own-last l.view of.reached begun rest) t e
+  last-replies s most side l at rest few t e = last-says p s side [] l at rest t e
 
   rescue-said : (s : SessionId) (side : Side) (l : Slot) (reply : Slot → Option Text) → SlotAt p s side l → Replies s (length l.texts + 1) reply → Said side (runs_noted p side s l (rescue_in l.view) reply)
   rescue-said s side l reply at ok = go (rescues l.view.role l.view) refl

@@ -6,7 +6,8 @@ use Rattle.std.proofs.lemmas.Bool.{and_from, and_parts, le-leb}
 use Rattle.std.proofs.lemmas.List.{length-drop}
 use Rattle.satp_base.specs.Chains.{role_at}
 use Rattle.satp_base.specs.Forms.{is_entry}
-use Rattle.satp_base.specs.Roles.{both, either, is_commit, negate, next_of}
+use Rattle.satp_base.specs.Roles.{IsReached, both, either, is_commit, negate, next_of}
+use Rattle.satp_base.specs.Views.{begin}
 use Rattle.satp_base.specs.Tales.{IsTale, has, is_role, is_whole, last_by, other}
 use Rattle.satp_base.specs.declared.message.Kind.{Kind}
 use Rattle.satp_base.specs.declared.message.Kind.TheVariants.{CommitReady, TransferProposal}
@@ -18,6 +19,7 @@ use Rattle.satp_base.specs.declared.view.View.{View}
 use Rattle.satp_base.proofs.ChainLemmas.{link_at_formed}
 use Rattle.satp_base.proofs.Finite.{all_of, all_of-at, andthen-left, andthen-right, implies, implies-make, implies-use}
 use Rattle.satp_base.proofs.TaleTable.{tale-in, tale-short}
+use Rattle.satp_origin.proofs.Tales as origin
 use Rattle.satp_sides.specs.Calls.{again_reply, last_of_own, last_own, last_text, last_unless_whole, own_at, recover_text, text_of, update_text}
 use Rattle.satp_sides.specs.DueLaws.{Rests}
 use Rattle.satp_sides.specs.LogLaws.{IsSessionOf}
@@ -81,7 +83,7 @@ is-rest : (n : Next) → Rests n → rests n ≡ true
 is-rest n (inl e) = ap rests e
 is-rest n (inr e) = ap rests e
 
-pub origin-own : (v : View) → IsTale v.tale → has TransferProposal v.tale ≡ true → (is_commit v.way ≡ true → has CommitReady v.tale ≡ true) → Rests (next_of Origin v) → is_whole v.tale ≡ false → last_by Origin v.tale ≡ true
+origin-own : (v : View) → IsTale v.tale → has TransferProposal v.tale ≡ true → (is_commit v.way ≡ true → has CommitReady v.tale ≡ true) → Rests (next_of Origin v) → is_whole v.tale ≡ false → last_by Origin v.tale ≡ true
 origin-own v tale begun committed r w =
     let d = v.done in
     let a = all_of-at (λ t. all_of (λ way. all_of (λ lock. all_of (λ burn. all_of (λ release. all_of (λ rescue. origin_rests d.mint d.assign t way lock burn release rescue) bools) bools) bools) bools) ways) (begun-in v.tale tale begun) (origins_all d.mint d.assign) in
@@ -92,7 +94,7 @@ origin-own v tale begun committed r w =
     let g = all_of-at (λ rescue. origin_rests d.mint d.assign v.tale v.way d.lock d.burn d.release rescue) (in_bools v.rescue) f in
     either-right (last_by Origin v.tale) (rests (next_at Origin (look_of v))) (implies-use _ _ g (both-true _ _ (implies-make _ _ committed) (negate-make _ w))) (ap rests (sym (next-is Origin v)) ∙ is-rest _ r)
 
-pub recipient-own : (v : View) → IsTale v.tale → has TransferProposal v.tale ≡ true → Rests (next_of Recipient v) → is_whole v.tale ≡ false → last_by Recipient v.tale ≡ true
+recipient-own : (v : View) → IsTale v.tale → has TransferProposal v.tale ≡ true → Rests (next_of Recipient v) → is_whole v.tale ≡ false → last_by Recipient v.tale ≡ true
 recipient-own v tale begun r w =
     let d = v.done in
     let a = all_of-at (λ t. all_of (λ way. all_of (λ mint. all_of (λ assign. all_of (λ release. recipient_rests d.lock d.burn v.rescue t way mint assign release) bools) bools) bools) ways) (begun-in v.tale tale begun) (recipients_all d.lock d.burn v.rescue) in
@@ -101,6 +103,17 @@ recipient-own v tale begun r w =
     let e = all_of-at (λ assign. all_of (λ release. recipient_rests d.lock d.burn v.rescue v.tale v.way d.mint assign release) bools) (in_bools d.assign) c in
     let f = all_of-at (λ release. recipient_rests d.lock d.burn v.rescue v.tale v.way d.mint d.assign release) (in_bools d.release) e in
     either-right (last_by Recipient v.tale) (rests (next_at Recipient (look_of v))) (implies-use _ _ f (negate-make _ w)) (ap rests (sym (next-is Recipient v)) ∙ is-rest _ r)
+
+-- at rest the last message of an open session is the side's own
+own-last : (v : View) → IsReached v.role v → has TransferProposal v.tale ≡ true → Rests (next_of v.role v) → is_whole v.tale ≡ false → last_by v.role v.tale ≡ true
+own-last v k begun rest w = by v.role refl
+  where
+    by : (role : Role) → v.role ≡ role → last_by v.role v.tale ≡ true
+    by Origin e =
+        let h = subst (λ r. IsReached r v) e k in
+        let keeps = subst origin.Keeps (sym h.view) (origin.keeps_from (begin Origin h.terms) h.recs (origin.begins h.terms) h.allowed) in
+        ap (λ r. last_by r v.tale) e ∙ origin-own v keeps.tale begun keeps.ready (subst (λ r. Rests (next_of r v)) e rest) w
+    by Recipient e = ap (λ r. last_by r v.tale) e ∙ recipient-own v (reached-tale v.role v k) begun (subst (λ r. Rests (next_of r v)) e rest) w
 
 -- ---- own texts
 
@@ -128,12 +141,15 @@ module _ (p : Party) (s : SessionId) (side : Side) (bag : List Text) (l : Slot) 
       go false x e = absurd (cc e)
       go true x e = own-says (length l.texts) (ap role_at as-long ∙ last-place l.view.role l.view.tale tale x) t e
 
-  pub last-says : (is_whole l.view.tale ≡ false → last_by l.view.role l.view.tale ≡ true) → (t : Text) → last_unless_whole l ≡ Some t → Sayable p side.records bag t
-  last-says own t e = go (is_whole l.view.tale) refl e
+  pub last-says : Rests (next_of l.view.role l.view) → (t : Text) → last_unless_whole l ≡ Some t → Sayable p side.records bag t
+  last-says rest t e = go (is_whole l.view.tale) refl e
     where
+      own-one : is_whole l.view.tale ≡ false → last_by l.view.role l.view.tale ≡ true
+      own-one = own-last l.view session.reached (ap (has TransferProposal) (sym session.chain.kinds)) rest
+
       go : (b : Bool) → is_whole l.view.tale ≡ b → (if b then None else last_text l.texts) ≡ Some t → Sayable p side.records bag t
       go true x e = absurd (cc e)
-      go false x e = own-says (length l.texts) (ap role_at as-long ∙ last-place l.view.role l.view.tale tale (own x)) t e
+      go false x e = own-says (length l.texts) (ap role_at as-long ∙ last-place l.view.role l.view.tale tale (own-one x)) t e
 
   last-of-own-says : is_whole l.view.tale ≡ true → (t : Text) → last_of_own l ≡ Some t → Sayable p side.records bag t
   last-of-own-says w t e = go (last_by l.view.role l.view.tale) refl e

@@ -6,7 +6,7 @@ use Rattle.satp_base.specs.Founding.{Founding}
 use Rattle.satp_base.specs.Chains.{next_text}
 use Rattle.satp_base.specs.Roles.{RoleRule, abort_of, both, either, is_back, is_commit, is_late, is_turned, negate, next_of, no_way, rescues}
 use Rattle.satp_base.specs.Roles.RoleRule.{Free}
-use Rattle.satp_base.specs.Tales.{IsTale, has, is_whole, last_by}
+use Rattle.satp_base.specs.Tales.{IsTale, has, is_whole}
 use Rattle.satp_base.specs.Views.{begin}
 use Rattle.satp_base.specs.declared.ledger.Entry.{Entry}
 use Rattle.satp_base.specs.declared.message.Kind.{Kind}
@@ -47,7 +47,7 @@ use Rattle.satp_world.specs.Worlds.{Gateway, Reached, Setting, World, name_at, o
 use Rattle.satp_world.specs.Worlds.Gateway.{A, B}
 use Rattle.satp_world.proofs.DueMoves.{SlotAt, note-long, note-stores, one-more, work-goes}
 use Rattle.satp_world.proofs.KeptLaw.{logs-kept}
-use Rattle.satp_world.proofs.Replies.{last-says, origin-own, recipient-own, recover-says}
+use Rattle.satp_world.proofs.Replies.{last-says, recover-says}
 use Rattle.satp_world.proofs.WorkLaw.{IsSideOf, moved-on, ordered, origin-side, recipient-side, slot-parts}
 use Rattle.satp_world.proofs.WorldLaw.{law_safety}
 
@@ -94,11 +94,6 @@ stands-in st a b w r g s v e = by-name g ((law_safety st a b w r).named g s v e)
     by-name g (inl h) e = let k = origin-side v (session_in w g s).a (session_in w g s).b (session_in w g s).a_entry (session_in w g s).b_entry e ((law_safety st a b w r).stands g s h) in As_origin k.0 _ k.1
     by-name A (inr h) e = let k = recipient-side v (session_in w B s).a (session_in w B s).b (session_in w B s).a_entry (session_in w B s).b_entry e ((law_safety st a b w r).stands B s h) in As_recipient k.0 _ k.1
     by-name B (inr h) e = let k = recipient-side v (session_in w A s).a (session_in w A s).b (session_in w A s).a_entry (session_in w A s).b_entry e ((law_safety st a b w r).stands A s h) in As_recipient k.0 _ k.1
-
--- at rest the last message of an open session is the side's own
-own-last : (v : View) → Stands v → Rests (next_of v.role v) → is_whole v.tale ≡ false → last_by v.role v.tale ≡ true
-own-last v (As_origin role e k) r w = ap (λ x. last_by x v.tale) role ∙ origin-own v k.tale k.begun k.committed (subst (λ x. Rests (next_of x v)) role r) w
-own-last v (As_recipient role e k) r w = ap (λ x. last_by x v.tale) role ∙ recipient-own v k.tale k.begun (subst (λ x. Rests (next_of x v)) role r) w
 
 -- ---- an abort that comes in time and gives a record
 
@@ -212,8 +207,7 @@ module _ (st : Setting) (a b : Founding) (g : Gateway) where
   -- ---- each call
 
   last-replies : (s : SessionId) (bag : List Text) (most : ℕ) → Replies s bag most last_unless_whole
-  last-replies s bag most side l k at r few t e =
-      last-says (party_at st g) s side bag l at (own-last l.view (stands-in st a b k.world k.reached g s l.view (ap (λ x. view_in s x.records) k.keeps ∙ at.named)) r) t e
+  last-replies s bag most side l k at r few t e = last-says (party_at st g) s side bag l at r t e
 
   no-replies : (s : SessionId) (bag : List Text) (most : ℕ) → Replies s bag most no_reply
   no-replies s bag most side l k at r few t e = absurd (cc e)

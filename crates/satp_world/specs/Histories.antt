@@ -41,8 +41,8 @@ after_events st w (e ∷ es) = after_events st (after_event st w e) es
 
 -- ---- what may happen
 
--- An operator may ask its gateway for anything, but that a session begins which isn't of the gateway's name. Of the peer's messages those come that a
--- network can hand over, as they were read.
+-- An operator may ask its gateway for anything, but that a session begins which isn't of the gateway's name. Of messages those come that a network can
+-- hand over, as they were read: nobody but both gateways signs with their key.
 abbrev pub MayCall : Setting → World → Gateway → Call → Type 0
 MayCall st w g (Hears m t e) = IsHeard st.key (Hears m t e) × Delivered st.key w.bag t
 MayCall st w g call = IsOfOwn (party_at st g) call

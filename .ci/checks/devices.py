@@ -174,18 +174,18 @@ def run_init(name):
 def syncs_of_init():
     # Entering syncs the folder, and that above it once.
     entered = {"..": 1, ".": 1}
-    # The journal: its closed gate, the second opening, and the two syncs of an append. The new file's entry is one of the folder's.
+    # The journal: its closed gate, and the two syncs of an append. The new file's entry is one of the folder's.
     # The ledger: its closed gate, and two for each of its three records. The second disk and the new file are two of the folder's.
     os.mkdir(at("fresh"))
     status, steps = run_init("fresh")
-    want("init in a folder", (status, [syncs(step) for step in steps]), (0, [{"..": 1, ".": 4, "journal-a": 4, "ledger": 7}]))
+    want("init in a folder", (status, [syncs(step) for step in steps]), (0, [{"..": 1, ".": 4, "journal-a": 3, "ledger": 7}]))
     ledger = read("fresh", "ledger")
     # A file that is there has no new entry, and a cut of it is synced.
     os.mkdir(at("again"))
     put(pattern(9000), "again", "ledger")
     put(b"\x00", "again", "journal-a")
     status, steps = run_init("again")
-    want("init over files", (status, [syncs(step) for step in steps]), (0, [{"..": 1, ".": 2, "journal-a": 4, "ledger": 8}]))
+    want("init over files", (status, [syncs(step) for step in steps]), (0, [{"..": 1, ".": 2, "journal-a": 3, "ledger": 8}]))
     want("the cuts of init over files", [path for call, path, _ in steps[0] if call == "ftruncate"], ["ledger"])
     want("the ledger of init over files", read("again", "ledger"), ledger)
     for name in ("fresh", "again"):

@@ -20,9 +20,9 @@ use Rattle.satp_sides.specs.Points.{Party, Stored, Text, begun, is_session, most
 use Rattle.satp_sides.proofs.Bounds.{not-begun}
 use Rattle.satp_sides.proofs.LogLaw.{log-all}
 use Rattle.satp_sides.proofs.Records.{session-self, view-none}
-use Rattle.satp_log.specs.Folding.{AddAnswers, BeginAnswers, HasRoom, IsStateOf, State}
+use Rattle.satp_log.specs.Folding.{AddAnswers, AddsOne, BeginAnswers, HasRoom, IsStateOf, State}
 use Rattle.satp_log.specs.Journals.{IsJournal, IsSomeJournal, party_of}
-use Rattle.satp_log.specs.Logged.{AddsRecord, AddsTo, AllHeld, IsPlaceOf, LogHolds, LogState, begins, counts_with, sessions_in, sessions_of}
+use Rattle.satp_log.specs.Logged.{AddsRecord, AddsTo, AllHeld, Enters, HoldsOne, IsPlaceOf, LogHolds, LogState, begins, counts_with, sessions_in, sessions_of, with_spare}
 use Rattle.satp_log.specs.declared.fault.Misfit.{Misfit}
 use Rattle.satp_log.specs.declared.fault.Misfit.TheVariants.{Refused, Memory}
 use Rattle.satp_log.specs.declared.held.Held.{Held}
@@ -185,6 +185,27 @@ begins-not p s r text xs state h m = go (begins r) refl
         let new = begun-new p xs s text r e (comes p xs (stored s r text) m) in
         absurd (none-some state.view (sym (view-none s xs new) ∙ (slot-parts _ _ _ _ h.slot).0))
 
+-- ---- one session more
+
+pub spared : (log : LogState) (setup : Setup) (xs : List Stored) (n : ℕ) → LogHolds log setup xs → LogHolds (with_spare log n) setup xs
+spared log setup xs n h = record { setup_is = h.setup_is; sessions = h.sessions; states = h.states; started = h.started; accepted = h.accepted }
+
+pub entered : (setup : Setup) (xs : List Stored) (log new : LogState) (s : SessionId) (r : Rec) (text : Text) (state : State) (a b : ℕ) → LogHolds log setup xs → IsPlaceOf log.entries s None → begins r ≡ true → Counted s r text xs a b
+    → AddsOne (party_of setup) s xs r text state → Enters log s state a b new → HoldsOne setup xs s r text new
+entered setup xs log new s r text state a b holds place first c one e =
+    let x = stored s r text in
+    let k : Held = record { session = s; state = state } in
+    let others = others-of s log.entries place in (
+      one.0,
+      record {
+        setup_is = e.setup_is ∙ holds.setup_is;
+        sessions = ap sessions_of e.entries_are ∙ map-append (λ (h : Held). h.session) log.entries (k ∷ []) ∙ ap (λ (ss : List SessionId). ss ++ s ∷ []) holds.sessions ∙ sym (sessions-more xs x first);
+        states = subst (AllHeld (party_of setup) (xs ++ x ∷ [])) (sym e.entries_are) (held-more (party_of setup) (xs ++ x ∷ []) log.entries k (held-apart (party_of setup) xs s r text log.entries others holds.states) one.1);
+        started = e.started_is ∙ c.started_is;
+        accepted = e.accepted_is ∙ c.accepted_is;
+      },
+    )
+
 -- ---- answers of a record
 
 module _ (setup : Setup) (xs : List Stored) (now old : LogState) (is : old ≡ now) (s : SessionId) (r : Rec) (text : Text) (log : IsLog (party_of setup) xs) (holds : LogHolds now setup xs) where
@@ -206,36 +227,21 @@ module _ (setup : Setup) (xs : List Stored) (now old : LogState) (is : old ≡ n
   pub counts-are : (o : Option (ℕ × ℕ)) (a b : ℕ) → o ≡ counts_with r old.started old.accepted → o ≡ Some (a, b) → Counted s r text xs a b
   counts-are o a b e q = counted s r text xs a b (sym (counts-here o e) ∙ q)
 
-  pub session-added : (o : Option (ℕ × ℕ)) (a b : ℕ) (state : State) (entries : List Held) → IsPlaceOf now.entries s None → o ≡ counts_with r old.started old.accepted → o ≡ Some (a, b) → BeginAnswers (party_of setup) s xs r text (Ok state)
-      → entries ≡ old.entries ++ record { session = s; state = state } ∷ [] → AddsRecord setup xs s r text now (record { setup = old.setup; entries = entries; started = a; accepted = b }) (Ok tt)
-  session-added o a b state entries place e q begun grown =
-      let x = stored s r text in
-      let k : Held = record { session = s; state = state } in
-      let c = counts-are o a b e q in
-      let first = begins-new (party_of setup) s r text xs (new-session place) begun.0 in
-      let others = others-of s old.entries (subst (λ (l : LogState). IsPlaceOf l.entries s None) (sym is) place) in (
-        begun.0,
-        record {
-          setup_is = here.setup_is;
-          sessions = ap sessions_of grown ∙ map-append (λ (h : Held). h.session) old.entries (k ∷ []) ∙ ap (λ (ss : List SessionId). ss ++ s ∷ []) here.sessions ∙ sym (sessions-more xs x first);
-          states = subst (AllHeld (party_of setup) (xs ++ x ∷ [])) (sym grown) (held-more (party_of setup) (xs ++ x ∷ []) old.entries k (held-apart (party_of setup) xs s r text old.entries others here.states) begun.1);
-          started = c.started_is;
-          accepted = c.accepted_is;
-        },
-      )
+  pub session-added : (mid new : LogState) (o : Option (ℕ × ℕ)) (a b : ℕ) (state : State) → IsPlaceOf now.entries s None → o ≡ counts_with r old.started old.accepted → o ≡ Some (a, b) → BeginAnswers (party_of setup) s xs r text (Ok state)
+      → mid ≡ with_spare now mid.spare → Enters mid s state a b new → AddsRecord setup xs s r text now new (Ok tt)
+  session-added mid new o a b state place e q begun same enters =
+      entered setup xs mid new s r text state a b (subst (λ l. LogHolds l setup xs) (sym same) (spared now setup xs mid.spare holds)) (subst (λ (l : LogState). IsPlaceOf l.entries s None) (sym same) place)
+      (begins-new (party_of setup) s r text xs (new-session place) begun.0) (counts-are o a b e q) begun enters
 
   pub session-refused : (m : Misfit) → BeginAnswers (party_of setup) s xs r text (Err m) → AddsRecord setup xs s r text now now (Err m)
   session-refused Refused n = (n, refl)
   session-refused Memory n = refl
 
-  pub session-unheld : (entries : List Held) → entries ≡ old.entries → AddsRecord setup xs s r text now (record { setup = old.setup; entries = entries; started = old.started; accepted = old.accepted }) (Err Memory)
-  session-unheld entries e = ap (λ (es : List Held). record { setup = old.setup; entries = es; started = old.started; accepted = old.accepted }) e ∙ is
-
   pub key-is : (key : List ℕ) → key ≡ old.setup.key → (party_of setup).key ≡ key
   key-is key e = sym (ap (λ (t : Setup). t.key) here.setup_is) ∙ sym e
 
   pub found-at : (es : List Held) (i : ℕ) (h : Held) → es ≡ old.entries → IsPlaceOf es s (Some i) → h ≡ get_or old.entries i h → (slice_get old.entries i ≡ Some h) × (h.session ≡ s)
-  found-at es i h e (k, at, same) q =
+  found-at es i h e (k, at, same, first) q =
       let there = ap (λ (l : List Held). slice_get l i) (sym e) ∙ at in
       let is-k : h ≡ k = q ∙ get_or_from_slice_get old.entries i k h there in
       (there ∙ ap Some (sym is-k), ap (λ (y : Held). y.session) is-k ∙ same)
@@ -243,13 +249,13 @@ module _ (setup : Setup) (xs : List Stored) (now old : LogState) (is : old ≡ n
   pub state-there : (i : ℕ) (h : Held) → slice_get old.entries i ≡ Some h → h.session ≡ s → IsStateOf (party_of setup) s xs h.state
   state-there i h e q = subst (λ t. IsStateOf (party_of setup) t xs h.state) q (state-at old setup xs s here old.entries i h here.states e)
 
-  kept-entries : (i : ℕ) (h k : Held) → slice_get old.entries i ≡ Some h → k.session ≡ h.session → k.state ≡ h.state → record { setup = old.setup; entries = slice_set old.entries i k; started = old.started; accepted = old.accepted } ≡ now
+  kept-entries : (i : ℕ) (h k : Held) → slice_get old.entries i ≡ Some h → k.session ≡ h.session → k.state ≡ h.state → record { setup = old.setup; entries = slice_set old.entries i k; started = old.started; accepted = old.accepted; spare = old.spare } ≡ now
   kept-entries i h k e p q =
       let same : k ≡ h = ap₂ (λ (t : SessionId) (u : State). record { session = t; state = u }) p q in
-      ap (λ (es : List Held). record { setup = old.setup; entries = es; started = old.started; accepted = old.accepted }) (set-self old.entries i h k e same) ∙ is
+      ap (λ (es : List Held). record { setup = old.setup; entries = es; started = old.started; accepted = old.accepted; spare = old.spare }) (set-self old.entries i h k e same) ∙ is
 
   pub state-added : (i : ℕ) (h k : Held) (result : Result (Unit {0}) Misfit) → slice_get old.entries i ≡ Some h → h.session ≡ s → k.session ≡ h.session → AddAnswers (party_of setup) s xs h.state r text k.state result
-      → AddsRecord setup xs s r text now (record { setup = old.setup; entries = slice_set old.entries i k; started = old.started; accepted = old.accepted }) result
+      → AddsRecord setup xs s r text now (record { setup = old.setup; entries = slice_set old.entries i k; started = old.started; accepted = old.accepted; spare = old.spare }) result
   state-added i h k (Ok tt) e q same a =
       let x = stored s r text in
       let b = begins-not (party_of setup) s r text xs h.state (state-there i h e q) a.0 in
@@ -266,10 +272,6 @@ module _ (setup : Setup) (xs : List Stored) (now old : LogState) (is : old ≡ n
       )
   state-added i h k (Err Refused) e q same a = (a.0, kept-entries i h k e same a.1)
   state-added i h k (Err Memory) e q same a = kept-entries i h k e same a
-
-pub answered : (setup : Setup) (xs : List Stored) (s : SessionId) (r : Rec) (text : Text) (old new other : LogState) (result answer : Result (Unit {0}) Misfit) → new ≡ other → result ≡ answer
-    → AddsRecord setup xs s r text old other answer → AddsRecord setup xs s r text old new result
-answered setup xs s r text old new other result answer e q a = subst (λ n. AddsRecord setup xs s r text old n result) (sym e) (subst (AddsRecord setup xs s r text old other) (sym q) a)
 
 -- ---- answers of a payload
 

@@ -32,7 +32,7 @@ use Rattle.satp_sides.proofs.LogLaw.{reached-keeps, reached-more}
 use Rattle.satp_sides.proofs.Records.{chain-here, chain-none, push-head, session-self, view-first, view-here, view-none}
 use Rattle.satp_log.specs.declared.fault.Misfit.{Misfit}
 use Rattle.satp_log.specs.declared.fault.Misfit.TheVariants.{Refused, Memory}
-use Rattle.satp_log.specs.Folding.{AddAnswers, FitsChain, HasKind, HasMessage, HasOtherText, HasRoom, HasText, IsSound, IsStateOf, MessageAnswers, State}
+use Rattle.satp_log.specs.Folding.{AddAnswers, AddsOne, FitsChain, HasKind, HasMessage, HasOtherText, HasRoom, HasText, IsNextOf, IsNextOfSome, IsProposed, IsSound, IsStateOf, MessageAnswers, State, proposal_text, text_with}
 use Rattle.satp_log.proofs.Comings.{Comes, Says, began-once, comes, made-fits, may, took-fits}
 
 -- ---- slots
@@ -52,7 +52,7 @@ none-is v e = cc e
 
 -- ---- what the chain takes
 
-tale-fits : (v : View) (chain : Chained) (kind : Kind) → IsSound v chain → IsTale (v.tale ++ kind ∷ []) → IsTale (tale_of chain ++ kind ∷ [])
+pub tale-fits : (v : View) (chain : Chained) (kind : Kind) → IsSound v chain → IsTale (v.tale ++ kind ∷ []) → IsTale (tale_of chain ++ kind ∷ [])
 tale-fits v chain kind k h = subst (λ t. IsTale (t ++ kind ∷ [])) (sym k.tale) h
 
 pub fits-chain : (v : View) (chain : Chained) (r : Rec) → IsSound v chain → RoleRule v.role v r → FitsChain chain r
@@ -103,7 +103,7 @@ sound-message v chain key r text signed k rule h =
 pub sound-note : (v : View) (chain : Chained) (r : Rec) → IsSound v chain → RoleRule v.role v r → IsNote r → IsSound (push v r) chain
 sound-note v chain r k rule n = record { tale = k.tale ∙ sym (note-tale v r n); reached = reached-pushed v r k.reached rule }
 
-is-noted : (chain : Chained) (key : List ℕ) (r : Rec) (text : List ℕ) → HasMessage chain key r text None → IsNote r × (text ≡ [])
+pub is-noted : (chain : Chained) (key : List ℕ) (r : Rec) (text : List ℕ) → HasMessage chain key r text None → IsNote r × (text ≡ [])
 is-noted chain key (Began role terms) text h = h
 is-noted chain key (Took kind) text h = h
 is-noted chain key (Made kind) text h = h
@@ -117,7 +117,7 @@ module _ (p : Party) (s : SessionId) (xs : List Stored) (old : State) (key : Lis
   parts : (view_in s xs ≡ Some old.view) × (chain_in s xs ≡ texts_in old.chain)
   parts = slot-parts (view_in s xs) (chain_in s xs) old.view (texts_in old.chain) h.slot
 
-  next-is : (q : Part) → (next_signed old.chain key q).text ≡ next_text s (recipient_at p old.view.role) p.key (chain_in s xs) q
+  pub next-is : (q : Part) → (next_signed old.chain key q).text ≡ next_text s (recipient_at p old.view.role) p.key (chain_in s xs) q
   next-is q =
       ap (λ x. next_text x old.chain.recipient key (texts_in old.chain) q) h.session
       ∙ ap (λ x. next_text s x key (texts_in old.chain) q) h.recipient
@@ -232,6 +232,40 @@ first-sound role terms chain key signed text e h = record {
   reached = record { terms = terms; recs = []; allowed = tt; view = refl };
 }
 
+own-next : (chain : Chained) (key : List ℕ) (q : Part) (signed : Signed) → signed ≡ next_signed chain key q → signed.text ≡ own key signed.message
+own-next chain key q signed e = ap (λ (x : Signed). x.text) e ∙ sym (ap (λ (x : Signed). own key x.message) e)
+
+pub proposed : (p : Party) (s : SessionId) (role : Role) (terms : Terms) (recipient : Name) (key : List ℕ) (chain more : Chained) (view : View) (signed : Signed) → recipient ≡ recipient_at p role → p.key ≡ key
+    → chain ≡ record { session = s; recipient = recipient; kept = [] } → signed ≡ next_signed chain key (part.Proposal terms) → Follows chain signed → more ≡ pushed chain signed → view ≡ begin role terms
+    → ((k : List ℕ) → IsChain chain k → signed.text ≡ own k signed.message → IsChain more k)
+    → IsProposed p s role terms (record { view = view; chain = more })
+proposed p s role terms recipient key chain more view signed same k is next follows grown v chained = record {
+  view = v;
+  texts = ap texts_in grown ∙ text-pushed chain signed ∙ ap₂ (λ (ts : List Text) (u : Text). ts ++ u ∷ []) (ap texts_in is)
+      (ap (λ (x : Signed). x.text) next ∙ ap (λ ch. (next_signed ch key (part.Proposal terms)).text) is ∙ ap₂ (λ (x : Name) (y : List ℕ). next_text s x y [] (part.Proposal terms)) same (sym k));
+  session = ap (λ (ch : Chained). ch.session) grown ∙ ap (λ (ch : Chained). ch.session) is;
+  recipient = ap (λ (ch : Chained). ch.recipient) grown ∙ ap (λ (ch : Chained). ch.recipient) is ∙ same;
+  chain = chained p.key (subst (λ ch. IsChain ch p.key) (sym is) (first-chain s recipient p.key)) (own-next chain key (part.Proposal terms) signed next ∙ ap (λ y. own y signed.message) (sym k));
+  sound = subst (λ w. IsSound w more) (sym v) (subst (IsSound (begin role terms)) (sym grown) (first-sound role terms chain key signed signed.text (ap (λ (ch : Chained). ch.kept) is) (next, follows, refl)));
+}
+
+pub proposed-state : (p : Party) (s : SessionId) (xs : List Stored) (role : Role) (terms : Terms) (state : State) → IsProposed p s role terms state → IsOfRole p s role → records_of s xs ≡ [] → begun role xs < most_sessions
+    → AddsOne p s xs (Began role terms) (proposal_text p s role terms) state
+proposed-state p s xs role terms state q whose new room =
+    let text = proposal_text p s role terms in
+    let x = stored s (Began role terms) text in (
+      may p xs s text (Began role terms) (record { whose = whose; new = new; room = room; text_is = refl }),
+      record {
+        slot = slot-from (view_in s (xs ++ x ∷ [])) (chain_in s (xs ++ x ∷ [])) state.view (texts_in state.chain)
+            (view-first s xs x (session-self s) new ∙ ap Some (sym q.view))
+            (chain-here s xs x (session-self s) ∙ ap (λ (ts : List Text). ts ++ text ∷ []) (chain-none s xs new) ∙ sym q.texts);
+        session = q.session;
+        recipient = q.recipient ∙ ap (λ (v : View). recipient_at p v.role) (sym q.view);
+        chain = q.chain;
+        sound = q.sound;
+      },
+    )
+
 module _ (p : Party) (s : SessionId) (xs : List Stored) (new : records_of s xs ≡ []) where
   unnamed : (v : View) → view_in s xs ≡ Some v → ⊥
   unnamed v e = none-is v (sym (view-none s xs new) ∙ e)
@@ -329,6 +363,47 @@ module _ (p : Party) (s : SessionId) (xs : List Stored) (now old : State) (key :
   without-message r text view rule m sound v =
       let all = add-note p s xs old key e there r text rule m (sound-note old.view old.chain r sound rule (is-noted old.chain key r text m).0) in
       (all.0, subst (λ w. IsStateOf p s (xs ++ stored s r text ∷ []) (record { view = w; chain = old.chain })) (sym v) all.1)
+
+-- ---- a record whose message is there
+
+pub there-next : (now old : State) (r : Rec) (message : Option Signed) → old ≡ now → IsNextOfSome now r message → IsNextOfSome old r message
+there-next now old r message is n = subst (λ st. IsNextOfSome st r message) (sym is) n
+
+pub has-of : (old : State) (key : List ℕ) (r : Rec) (message other : Option Signed) → message ≡ other → IsNextOf old key r message → HasMessage old.chain key r (text_with other) other
+has-of old key r message other e n = subst (λ m. HasMessage old.chain key r (text_with m) m) e n.message_is
+
+text-of-message : (chain : Chained) (key : List ℕ) (r : Rec) (text : Text) (message : Option Signed) → HasMessage chain key r text message → text ≡ text_with message
+text-of-message chain key r text None h = (is-noted chain key r text h).1
+text-of-message chain key (Began role terms) text (Some signed) h = absurd h
+text-of-message chain key (Took kind) text (Some signed) h = h.3.2
+text-of-message chain key (Made kind) text (Some signed) h = h.3.2
+text-of-message chain key (Did op) text (Some signed) h = absurd h
+text-of-message chain key (Chose way) text (Some signed) h = absurd h
+text-of-message chain key Rescue text (Some signed) h = absurd h
+
+pub next-of : (now old : State) (key : List ℕ) (r : Rec) (text : Text) (message : Option Signed) → old ≡ now → RoleRule old.view.role old.view r → HasMessage old.chain key r text message → IsNextOf now key r message
+next-of now old key r text message is rule h =
+    subst (λ st. IsNextOf st key r message) is (record { rule = rule; message_is = subst (λ t. HasMessage old.chain key r t message) (text-of-message old.chain key r text message h) h })
+
+pub added : (p : Party) (s : SessionId) (xs : List Stored) (now old : State) (key : List ℕ) (r : Rec) (text : Text) (message : Option Signed) (new : State) → p.key ≡ key → old ≡ now → RoleRule old.view.role old.view r
+    → HasMessage old.chain key r text message → (IsNextOf now p.key r message → AddsOne p s xs r (text_with message) new) → AddsOne p s xs r text new
+added p s xs now old key r text message new e is rule h one =
+    subst (λ t. AddsOne p s xs r t new) (sym (text-of-message old.chain key r text message h)) (one (subst (λ k. IsNextOf now k r message) (sym e) (next-of now old key r text message is rule h)))
+
+pub message-pushed : (p : Party) (s : SessionId) (xs : List Stored) (now old : State) (r : Rec) (message : Option Signed) (signed : Signed) (view : View) (chain : Chained) → old ≡ now → IsStateOf p s xs now → message ≡ Some signed → IsNextOf now p.key r message
+    → IsSound old.view old.chain → view ≡ push old.view r → chain ≡ pushed old.chain signed → ((k : List ℕ) → IsChain old.chain k → signed.text ≡ own k signed.message → IsChain chain k)
+    → AddsOne p s xs r (text_with message) (record { view = view; chain = chain })
+message-pushed p s xs now old r message signed view chain is h e n sound v c chained =
+    let here = subst (λ st. IsNextOf st p.key r message) (sym is) n in
+    subst (λ m. AddsOne p s xs r (text_with m) (record { view = view; chain = chain })) (sym e)
+    (with-message p s xs now old p.key refl is h r signed.text signed view chain here.rule (has-of old p.key r message (Some signed) e here) sound v c chained)
+
+pub note-pushed : (p : Party) (s : SessionId) (xs : List Stored) (now old : State) (r : Rec) (message : Option Signed) (view : View) → old ≡ now → IsStateOf p s xs now → message ≡ None → IsNextOf now p.key r message
+    → IsSound old.view old.chain → view ≡ push old.view r → AddsOne p s xs r (text_with message) (record { view = view; chain = old.chain })
+note-pushed p s xs now old r message view is h e n sound v =
+    let here = subst (λ st. IsNextOf st p.key r message) (sym is) n in
+    subst (λ m. AddsOne p s xs r (text_with m) (record { view = view; chain = old.chain })) (sym e)
+    (without-message p s xs now old p.key refl is h r [] view here.rule (has-of old p.key r message None e here) sound v)
 
 pub sound-after : (old : State) (key : List ℕ) (r : Rec) (text : Text) (signed : Signed) (view : View) (chain : Chained) → RoleRule old.view.role old.view r → HasMessage old.chain key r text (Some signed) → IsSound old.view old.chain
     → view ≡ push old.view r → chain ≡ pushed old.chain signed → IsSound view chain

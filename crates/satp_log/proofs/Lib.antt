@@ -1,8 +1,12 @@
 pub mod HearLemmas
 pub mod Comings
 pub mod Folds
+pub mod ChainMore
+pub mod StateLaw
 pub mod JournalLemmas
 pub mod Entries
 pub mod LogLemmas
+pub mod Places
 pub mod AddLemmas
+pub mod PushLemmas
 pub mod ReadLemmas

@@ -1,6 +1,6 @@
 -- A log holds what the records say, with one record more.
-use Rattle.std.proofs.Common.{◌≡◌, ◌≢◌, inl, inr, ◌<◌, ◌+◌, ℕ, zero, suc, Bool, true, false, cond, get_or, List, [], ◌∷◌, ◌++◌, length, map, Option, Some, None, refl, sym, ap, ap₂, subst, ◌∙◌}
-use Rattle.std.specs.Prelude.{filter, slice_get, option_map, option_and_then, nat_lt, Result, Ok, Err, IfOk}
+use Rattle.std.proofs.Common.{◌≡◌, ◌≢◌, inl, inr, ◌<◌, ◌+◌, ℕ, zero, suc, Bool, true, false, cond, List, [], ◌∷◌, ◌++◌, length, map, Option, Some, None, refl, sym, ap, ap₂, subst, ◌∙◌}
+use Rattle.std.specs.Prelude.{filter, slice_get, option_map, nat_lt, Result, Ok, Err, IfOk}
 use Rattle.std.specs.List.{AllByRecursion}
 use Rattle.std.proofs.lemmas.Bool.{ltb-true}
 use Rattle.std.proofs.lemmas.List.{append-nil, map-append, length_push}
@@ -19,24 +19,20 @@ use Rattle.satp_records.specs.declared.stored.Setup.{Setup}
 use Rattle.satp_records.specs.declared.stored.Stored.{Stored as Journaled}
 use Rattle.satp_records.specs.declared.stored.Stored.TheVariants as journaled
 use Rattle.satp_sides.specs.Logs.{IsLog, MayCome}
-use Rattle.satp_sides.specs.Points.{Party, Slot, Stored, Text, began_as, begun, chain_in, is_session, records_of, slot, stored, view_in}
+use Rattle.satp_sides.specs.Points.{Party, Stored, Text, began_as, begun, is_session, records_of, slot, stored, view_in}
 use Rattle.satp_sides.proofs.LogLaw.{log-all, log-grows}
 use Rattle.satp_sides.proofs.Records.{chain-apart, is-session, records-apart, session-self, view-apart, view-first, view-here}
 use Rattle.satp_log.specs.Folding.{IsStateOf, State}
 use Rattle.satp_log.specs.Journals.{IsJournal, party_of}
-use Rattle.satp_log.specs.Logged.{AllHeld, BeginsLog, IsPlaceOf, LogHolds, LogState, begins, sessions_in, sessions_of, text_in}
+use Rattle.satp_log.specs.Logged.{AllHeld, BeginsLog, IsPlaceOf, LogHolds, LogState, begins, sessions_in, sessions_of}
 use Rattle.satp_log.specs.declared.fault.Misfit.{Misfit}
 use Rattle.satp_log.specs.declared.fault.Misfit.TheVariants.{Refused, Memory}
 use Rattle.satp_log.specs.declared.held.Held.{Held}
-use Rattle.satp_chain.specs.Chained.{Chained, texts_in}
-use Rattle.satp_sides.specs.Calls.{text_of}
-use Rattle.std.proofs.lemmas.Option.{get_or_from_slice_get}
 use Rattle.satp_log.proofs.Comings.{Comes, comes}
-use Rattle.satp_log.proofs.Folds.{slot-parts}
 
 -- ---- entries of other sessions
 
-is-not : (t s : SessionId) → t ≢ s → is_session t s ≡ false
+pub is-not : (t s : SessionId) → t ≢ s → is_session t s ≡ false
 is-not t s n = go (is_session t s) refl
   where
     go : (b : Bool) → is_session t s ≡ b → b ≡ false
@@ -201,9 +197,9 @@ begin-err payload result f Refused is only memory other = λ some. by some.0 som
 abbrev Found : List ℕ → Result Journaled RecordFault → Type 0
 Found payload result = IfOk result (λ x. IsFormed x × (payload ≡ payload_of x))
 
-pub begin-ok : (payload : List ℕ) (result : Result Journaled RecordFault) (x : Journaled) (setup : Setup) (entries : List Held) → result ≡ Ok x → x ≡ journaled.Setup setup → Found payload result → entries ≡ []
-    → BeginsLog payload (Ok (record { setup = setup; entries = entries; started = 0; accepted = 0 }))
-begin-ok payload result x setup entries is what found none =
+pub begin-ok : (payload : List ℕ) (result : Result Journaled RecordFault) (x : Journaled) (setup : Setup) (entries : List Held) (spare : ℕ) → result ≡ Ok x → x ≡ journaled.Setup setup → Found payload result → entries ≡ []
+    → BeginsLog payload (Ok (record { setup = setup; entries = entries; started = 0; accepted = 0; spare = spare }))
+begin-ok payload result x setup entries spare is what found none =
     let h = subst (Found payload) (is ∙ ap Ok what) found in (
       setup,
       record { list = ap (λ (p : List ℕ). p ∷ []) h.1; formed = h.0; log = (log-grows (party_of setup)).none },
@@ -224,31 +220,8 @@ module _ (log : LogState) (setup : Setup) (xs : List Stored) (s : SessionId) (h 
   state-at (x ∷ hs) zero k all e = let same : x ≡ k = cc e in subst (λ (y : Held). IsStateOf (party_of setup) y.session xs y.state) same all.0
   state-at (x ∷ hs) (suc i) k all e = state-at hs i k all.1 e
 
-  pub found-state : (i : ℕ) (k : Held) → slice_get log.entries i ≡ Some k → k.session ≡ s → IsStateOf (party_of setup) s xs k.state
-  found-state i k e q = subst (λ t. IsStateOf (party_of setup) t xs k.state) q (state-at log.entries i k h.states e)
-
   pub not-found : IsPlaceOf log.entries s None → view_in s xs ≡ None
   not-found n = no-view s xs (subst (NotIn s) h.sessions (others-in s log.entries (others-of s log.entries n)))
 
-  place-state : (es others : List Held) (i : ℕ) (held : Held) → es ≡ log.entries → others ≡ log.entries → IsPlaceOf es s (Some i) → held ≡ get_or others i held → IsStateOf (party_of setup) s xs held.state
-  place-state es others i held e o (k, at, same) here =
-      let at' = ap (λ l. slice_get l i) (o ∙ sym e) ∙ at in
-      let is : held ≡ k = here ∙ get_or_from_slice_get others i k held at' in
-      subst (λ (x : Held). IsStateOf (party_of setup) s xs x.state) (sym is) (found-state i k (ap (λ l. slice_get l i) (sym e) ∙ at) same)
-
-  pub view-is : (es others : List Held) (i : ℕ) (held : Held) (v : View) → es ≡ log.entries → others ≡ log.entries → IsPlaceOf es s (Some i) → held ≡ get_or others i held → v ≡ held.state.view → Some v ≡ view_in s xs
-  view-is es others i held v e o place here is =
-      let state = place-state es others i held e o place here in
-      ap Some is ∙ sym (slot-parts (view_in s xs) (chain_in s xs) held.state.view (texts_in held.state.chain) state.slot).0
-
-  pub text-is : (es others : List Held) (i : ℕ) (held : Held) (chain : Chained) (place : ℕ) (r : Option (List ℕ)) → es ≡ log.entries → others ≡ log.entries → IsPlaceOf es s (Some i) → held ≡ get_or others i held
-      → chain ≡ held.state.chain → r ≡ text_of (texts_in chain) place → r ≡ text_in s xs place
-  text-is es others i held chain place r e o at here is found =
-      let state = place-state es others i held e o at here in
-      found ∙ ap (λ (ch : Chained). text_of (texts_in ch) place) is ∙ sym (ap (option_and_then (λ (l : Slot). text_of l.texts place)) state.slot)
-
   pub no-view-is : (es : List Held) → es ≡ log.entries → IsPlaceOf es s None → view_in s xs ≡ None
   no-view-is es e n = not-found (subst (λ l. IsPlaceOf l s None) e n)
-
-  pub no-text-is : (es : List Held) (place : ℕ) → es ≡ log.entries → IsPlaceOf es s None → text_in s xs place ≡ None
-  no-text-is es place e n = ap (λ o. option_and_then (λ (l : Slot). text_of l.texts place) (option_map (λ v. slot v (chain_in s xs)) o)) (no-view-is es e n)

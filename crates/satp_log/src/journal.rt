@@ -1,18 +1,22 @@
-ghost use Rattle.std.specs.Prelude.{◌≡◌, ◌≢◌, ◌<◌, ℕ, List, Some, None, IfErr, length, slice_get};
+ghost use Rattle.std.specs.Prelude.{◌≡◌, ◌≢◌, ◌<◌, ◌≤◌, ◌+◌, ℕ, List, Some, None, IfErr, length, slice_get};
 ghost use Rattle.std.specs.Option.{option_copied};
 ghost use Rattle.satp_sides.specs.Logs.{IsLog};
-ghost use Rattle.satp_sides.specs.Points.{Stored as StoredOf, view_in};
+ghost use Rattle.satp_base.specs.declared.message.Role.TheVariants.{Origin, Recipient};
+ghost use Rattle.satp_base.specs.declared.record.Rec.TheVariants.{Began};
+ghost use Rattle.satp_sides.specs.LogLaws.{IsOfRole};
+ghost use Rattle.satp_sides.specs.Points.{Stored as StoredOf, begun, most_sessions, view_in};
 ghost use Rattle.satp_sides.specs.Calls.{text_of};
 ghost use Rattle.satp_chain.specs.Chained.{texts_in};
 ghost use Rattle.satp_records.specs.declared.stored.Setup.{Setup};
 ghost use Rattle.satp_log.specs.Journals.{IsJournal, IsSomeJournal, party_of};
-ghost use Rattle.satp_log.specs.Logged.{AddsRecord, AddsTo, BeginsLog, IsPlaceOf, LogHolds, LogReads, ReadsFirst, counts_with, fault_at, sessions_in, text_in};
+ghost use Rattle.satp_log.specs.Folding.{IsProposed, State, proposal_text, state_with, text_with};
+ghost use Rattle.satp_log.specs.Logged.{AddsRecord, AddsTo, BeginsLog, Enters, FoundIn, HoldsOne, IsComing, IsPlaceOf, LogHolds, LogReads, ReadsFirst, Reserves, count_of, counts_with, fault_at, sessions_in, state_in, text_in};
 
 use crate::fault::{LogFault, Misfit};
 use crate::held::{Held, place_of};
 use crate::state::SessionState;
-use satp_base::{Rec, Role, SessionId, Texts, View};
-use satp_chain::Chain;
+use satp_base::{Memory, Rec, Role, SessionId, Terms, Texts, View};
+use satp_chain::{Chain, Signed};
 use satp_jws::Key;
 use satp_records::{RecordFault, Setup, Stored, decode};
 use std::alloc::Global;
@@ -32,12 +36,18 @@ pub struct Log {
 }
 
 impl Model for Log {
-    ghost use Rattle.std.specs.Prelude.{◌≡◌};
+    ghost use Rattle.std.specs.Prelude.{◌≡◌, ◌-◌, vec_capacity, vec_len};
     ghost use Rattle.satp_log.specs.Logged.{LogState};
 
     ghost Value = { LogState };
 
-    ghost view = { λ log. record { setup = log.setup; entries = log.entries.items; started = log.started; accepted = log.accepted } };
+    ghost view = { λ log. record {
+      setup = log.setup;
+      entries = log.entries.items;
+      started = log.started;
+      accepted = log.accepted;
+      spare = vec_capacity log.entries - vec_len log.entries;
+    } };
 
     ghost invariant = { λ log. log.key ≡ log.setup.key };
 }
@@ -148,15 +158,84 @@ impl Log {
         let name = self.setup.name;
         let peer = self.setup.peer;
         match SessionState::begin(alloc, name, peer, &self.key, session, rec, text) {
-            Ok(state) => match self.entries.push(Held { session, state }) {
+            Ok(state) => match self.reserve() {
                 Ok(()) => {
-                    self.started = started;
-                    self.accepted = accepted;
+                    self.enter(session, state, started, accepted);
                     Ok(())
                 }
                 Err(_) => Err(Misfit::Memory),
             },
             Err(misfit) => Err(misfit),
+        }
+    }
+
+    /// One entry more, for which there is room.
+    fn enter(&mut self, session: SessionId, state: SessionState, started: u32, accepted: u32)
+        requires { 1 ≤ self.old.spare }
+        ensures { Enters self.old session state started accepted self.new }
+    {
+        match self.entries.push(Held { session, state }) {
+            Ok(()) => {
+                self.started = started;
+                self.accepted = accepted;
+            }
+            Err(_) => unreachable!(),
+        }
+    }
+
+    /// Finds room for one session more.
+    pub fn reserve(&mut self) -> Result<(), Memory>
+        ensures { Reserves self.old self.new result }
+    {
+        match self.entries.reserve(1) {
+            Ok(()) => Ok(()),
+            Err(_) => Err(Memory),
+        }
+    }
+
+    /// One record more of a session that the log has, with the record's message where it has one. It takes no memory.
+    pub fn push(&mut self, session: SessionId, rec: Rec, message: Option<Signed>)
+        requires { IsComing self.old session rec message }
+        ensures holds { (setup : Setup) (xs : List StoredOf) → IsLog (party_of setup) xs → LogHolds self.old setup xs → HoldsOne setup xs session rec (text_with message) self.new }
+        ensures state { (state : State) → state_in session self.old.entries ≡ Some state → state_in session self.new.entries ≡ Some (state_with state rec message) }
+        ensures setup { self.new.setup ≡ self.old.setup }
+        ensures spare { self.new.spare ≡ self.old.spare }
+    {
+        match place_of(self.entries.as_slice(), session) {
+            Some(index) => match self.entries.get_mut(index) {
+                Some(held) => held.state.push(rec, message),
+                None => unreachable!(),
+            },
+            None => unreachable!(),
+        }
+    }
+
+    /// The first record of a session, which begins it in this role with these terms, and the state after it. There is
+    /// room for the session. It takes no memory.
+    pub fn push_session(
+        &mut self,
+        session: SessionId,
+        role: Role,
+        terms: Terms,
+        state: SessionState,
+    )
+        requires room { 1 ≤ self.old.spare }
+        requires new { state_in session self.old.entries ≡ None }
+        requires proposed { IsProposed (party_of self.old.setup) session role terms state }
+        requires count { count_of role self.old < most_sessions }
+        requires role { IsOfRole (party_of self.old.setup) session role }
+        ensures holds { (setup : Setup) (xs : List StoredOf) → IsLog (party_of setup) xs → LogHolds self.old setup xs → HoldsOne setup xs session (Began role terms) (proposal_text (party_of setup) session role terms) self.new }
+        ensures state { state_in session self.new.entries ≡ Some state }
+        ensures setup { self.new.setup ≡ self.old.setup }
+        ensures spare { self.old.spare ≤ self.new.spare + 1 }
+    {
+        match role {
+            Role::Origin => {
+                self.enter(session, state, self.started + 1, self.accepted);
+            }
+            Role::Recipient => {
+                self.enter(session, state, self.started, self.accepted + 1);
+            }
         }
     }
 
@@ -177,15 +256,49 @@ impl Log {
         }
     }
 
+    /// The key that the gateway signs with.
+    pub fn key(&self) -> &Key
+        ensures { result.now ≡ self.now.setup.key }
+    {
+        &self.key
+    }
+
+    /// How many sessions the gateway began as their origin.
+    pub fn started(&self) -> u32
+        ensures count { result ≡ count_of Origin self.now }
+        ensures begun { (setup : Setup) (xs : List StoredOf) → LogHolds self.now setup xs → result ≡ begun Origin xs }
+    {
+        self.started
+    }
+
+    /// How many sessions of its peer it accepted.
+    pub fn accepted(&self) -> u32
+        ensures count { result ≡ count_of Recipient self.now }
+        ensures begun { (setup : Setup) (xs : List StoredOf) → LogHolds self.now setup xs → result ≡ begun Recipient xs }
+    {
+        self.accepted
+    }
+
+    /// What the records say of a session, with its chain; none exactly where no record names it.
+    pub fn find(&self, session: SessionId) -> Option<&SessionState>
+        ensures state { option_copied result ≡ state_in session self.now.entries }
+        ensures found { (setup : Setup) (xs : List StoredOf) → LogHolds self.now setup xs → FoundIn (party_of setup) session xs (option_copied result) }
+    {
+        match place_of(self.entries.as_slice(), session) {
+            Some(index) => match self.entries.get(index) {
+                Some(held) => Some(&held.state),
+                None => unreachable!(),
+            },
+            None => None,
+        }
+    }
+
     /// What the records say of a session; none exactly where no record names it.
     pub fn view(&self, session: SessionId) -> Option<View>
         ensures { (setup : Setup) (xs : List StoredOf) → LogHolds self.now setup xs → result ≡ view_in session xs }
     {
-        match place_of(self.entries.as_slice(), session) {
-            Some(index) => match self.entries.get(index) {
-                Some(held) => Some(*held.state.view()),
-                None => unreachable!(),
-            },
+        match self.find(session) {
+            Some(state) => Some(*state.view()),
             None => None,
         }
     }
@@ -194,11 +307,8 @@ impl Log {
     pub fn text(&self, session: SessionId, place: u8) -> Option<&[u8]>
         ensures { (setup : Setup) (xs : List StoredOf) → LogHolds self.now setup xs → option_copied result ≡ text_in session xs place }
     {
-        match place_of(self.entries.as_slice(), session) {
-            Some(index) => match self.entries.get(index) {
-                Some(held) => text_at(held.state.chain(), place),
-                None => unreachable!(),
-            },
+        match self.find(session) {
+            Some(state) => text_at(state.chain(), place),
             None => None,
         }
     }

@@ -11,5 +11,5 @@ mod state;
 pub use fault::{LogFault, Misfit, Unheard};
 pub use hearing::hear;
 pub use journal::Log;
-pub use laws::law_journals;
+pub use laws::{law_journals, law_states};
 pub use state::SessionState;

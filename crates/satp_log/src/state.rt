@@ -7,10 +7,10 @@ ghost use Rattle.satp_base.specs.Views.{begin, push};
 ghost use Rattle.satp_chain.specs.Chained.{next_signed, tale_of};
 ghost use Rattle.satp_sides.specs.LogLaws.{IsOfRole};
 ghost use Rattle.satp_sides.specs.Points.{Party, Stored, recipient_at, records_of};
-ghost use Rattle.satp_log.specs.Folding.{AddAnswers, BeginAnswers, FitsChain, FitsKind, HasKind, HasRoom, HasText, IsStateOf, MessageAnswers};
+ghost use Rattle.satp_log.specs.Folding.{AddAnswers, AddsOne, BeginAnswers, FitsChain, FitsKind, HasKind, HasRoom, HasText, IsNextOf, IsNextOfSome, IsProposed, IsStateOf, MessageAnswers, state_with, text_with};
 
 use crate::fault::Misfit;
-use satp_base::{Kind, Memory, Name, Part, Reason, Rec, Role, SessionId, View};
+use satp_base::{Kind, Memory, Name, Part, Reason, Rec, Role, SessionId, Terms, View};
 use satp_chain::{Chain, Signed};
 use satp_jws::Key;
 use std::alloc::Global;
@@ -66,6 +66,25 @@ impl SessionState {
         }
     }
 
+    /// The state after the first record of a session, which begins it in this role with these terms. Its proposal is composed.
+    pub fn propose(
+        alloc: Global,
+        name: Name,
+        peer: Name,
+        key: &Key,
+        session: SessionId,
+        role: Role,
+        terms: Terms,
+    ) -> Result<SessionState, Memory>
+        ensures { (p : Party) → p ≡ record { name = name; peer = peer; key = key.now } → IfOk result (IsProposed p session role terms) }
+    {
+        let mut chain = Chain::new(alloc, session, recipient_of(role, name, peer))?;
+        let proposal = chain.compose(alloc, key, Part::Proposal(terms))?;
+        chain.push(proposal);
+        let view = View::begin(role, terms);
+        Ok(SessionState { view, chain })
+    }
+
     /// One record more.
     ///
     /// `Refused` comes exactly where it may not come: the role's rule doesn't allow it, or its text isn't the chain's next with its kind. It leaves the state as it was, and so does want of memory.
@@ -76,16 +95,26 @@ impl SessionState {
             return Err(Misfit::Refused);
         }
         match message(alloc, key, &self.chain, rec, text) {
-            Ok(Some(signed)) => {
-                self.chain.push(signed);
-                self.view.push(*rec);
-                Ok(())
-            }
-            Ok(None) => {
-                self.view.push(*rec);
+            Ok(message) => {
+                self.push(*rec, message);
                 Ok(())
             }
             Err(misfit) => Err(misfit),
+        }
+    }
+
+    /// One record more, which may come, with its message where it has one. It takes no memory.
+    pub fn push(&mut self, rec: Rec, message: Option<Signed>)
+        requires { IsNextOfSome self.old rec message }
+        ensures state { self.new ≡ state_with self.old rec message }
+        ensures more { (p : Party) (s : SessionId) (xs : List Stored) → IsStateOf p s xs self.old → IsNextOf self.old p.key rec message → AddsOne p s xs rec (text_with message) self.new }
+    {
+        match message {
+            Some(signed) => {
+                self.chain.push(signed);
+                self.view.push(rec);
+            }
+            None => self.view.push(rec),
         }
     }
 

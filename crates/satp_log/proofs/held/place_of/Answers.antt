@@ -8,7 +8,7 @@ use Rattle.satp_log.proofs.held.place_of.Goals as goal
 pub returns-then-is_of : goal.returns-then-is_of
 returns-then-is_of c =
     let (h, e) = entry-at c.args.entries.now c.loop-index.index (omega (arith, c.loop-index-test.true, c.loop-index.auto.index-end)) in
-    (h, e, (c.is_of.ensures h e).0 c.if-is_of.true)
+    (h, e, (c.is_of.ensures h e).0 c.if-is_of.true, λ j k w at. c.loop-index.invariant j k w at)
 
 pub loop-index-preserved : goal.loop-index-preserved
 loop-index-preserved c = λ i h w e q. elim (cases_lt i c.loop-index.index) [

@@ -1,16 +1,16 @@
 use Rattle.std.proofs.Common.{subst}
 use Rattle.satp_log.specs.Folding.{BeginAnswers}
 use Rattle.satp_log.specs.Journals.{party_of}
-use Rattle.satp_log.proofs.AddLemmas.{answered, counts-are, new-session, party-is, session-added, session-refused, session-unheld, too-many}
+use Rattle.satp_log.specs.Logged.{Reserves}
+use Rattle.satp_log.proofs.AddLemmas.{counts-are, new-session, party-is, session-added, session-refused, too-many}
 use Rattle.satp_log.proofs.journal.Log.add_session.Goals as goal
-use Rattle.satp_log.proofs.journal.Log.add_session.Goals.{in-Ok-push, in-Err-push}
 
 pub returns-in_default : goal.returns-in_default
 returns-in_default c = λ setup xs log h.
     too-many setup xs c.args.self.now _ c.self.view_is c.args.session c.args.rec.now c.args.text.now log h c.counts_with.result c.counts_with.ensures (λ a b e. c.in_default.not-Some (a, b) e)
 
-pub returns-after-push : goal.returns-after-push
-returns-after-push c = λ setup xs log h.
+pub returns-in-Ok-reserve : goal.returns-in-Ok-reserve
+returns-in-Ok-reserve c = λ setup xs log h.
     let s = c.args.session in
     let r = c.args.rec.now in
     let text = c.args.text.now in
@@ -18,17 +18,8 @@ returns-after-push c = λ setup xs log h.
     let new = new-session setup xs now _ c.self.view_is s r text log h c.requires in
     let room = (counts-are setup xs now _ c.self.view_is s r text log h c.counts_with.result c.in-Some.started c.in-Some.accepted c.counts_with.ensures c.in-Some.is).room in
     let begun = c.begin.ensures (party_of setup) xs (party-is setup xs now _ c.self.view_is s r text log h c.self.inside.key c.self.invariant) new room in
-    elim c.match-push.branch [
-      | in-Ok-push w ↦ (
-          answered setup xs s r text now c.match-push.self _ c.match-push.result _ w.self-is w.result-is
-          (session-added setup xs now _ c.self.view_is s r text log h c.counts_with.result c.in-Some.started c.in-Some.accepted c.in-Ok.state c.push.new.self.items c.requires c.counts_with.ensures c.in-Some.is
-          (subst (BeginAnswers (party_of setup) s xs r text) c.in-Ok.is begun) w.in-Ok-push.ensures.items)
-          )
-      | in-Err-push w ↦ (
-          answered setup xs s r text now c.match-push.self _ c.match-push.result _ w.self-is w.result-is
-          (session-unheld setup xs now _ c.self.view_is s r text log h c.push.new.self.items w.in-Err-push.ensures.items)
-          )
-    ]
+    session-added setup xs now _ c.self.view_is s r text log h c.reserve.new.self c.enter.new.self c.counts_with.result c.in-Some.started c.in-Some.accepted c.in-Ok.state c.requires c.counts_with.ensures c.in-Some.is
+    (subst (BeginAnswers (party_of setup) s xs r text) c.in-Ok.is begun) (subst (Reserves now c.reserve.new.self) c.in-Ok-reserve.is c.reserve.ensures).0 c.enter.ensures
 
 pub returns-in-Err : goal.returns-in-Err
 returns-in-Err c = λ setup xs log h.

@@ -1,0 +1,13 @@
+pub mod DecidedLaw
+pub mod Kept
+pub mod GoingLaw
+pub mod Slots
+pub mod DueLaw
+pub mod StopLaw
+pub mod Replying
+pub mod Aborting
+pub mod CallLaw
+pub mod CallStops
+pub mod Doing
+pub mod Working
+pub mod HappenLaw

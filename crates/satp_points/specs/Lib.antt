@@ -1,0 +1,4 @@
+pub mod States
+pub mod Decisions
+pub mod Answers
+pub mod Deciding

@@ -1,0 +1,17 @@
+pub mod Keeping
+pub mod Storing
+pub mod Acting
+pub mod Dues
+pub mod Turns
+pub mod Looping
+pub mod Making
+pub mod Operating
+pub mod Beginning
+pub mod Firsts
+pub mod StartLemmas
+pub mod ReplyLemmas
+pub mod MessageLemmas
+pub mod Provisions
+pub mod Carrying
+pub mod DoneLemmas
+pub mod RegisterLemmas

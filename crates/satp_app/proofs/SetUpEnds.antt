@@ -5,7 +5,8 @@ use Rattle.satp_base.specs.Calls.{entered}
 use Rattle.satp_base.specs.Founding.{Founding}
 use Rattle.satp_base.specs.Streams.{Rose}
 use Rattle.satp_base.specs.Values.{name_text}
-use Rattle.satp_gateway.specs.SettingUp.{IsVacant, Tells, VacantAnswers, plan}
+use Rattle.satp_points.specs.States.{Tells}
+use Rattle.satp_gateway.specs.SettingUp.{IsVacant, VacantAnswers, plan}
 use Rattle.satp_gateway.specs.declared.fault.SetUpFault.{SetUpFault}
 use Rattle.satp_gateway.specs.declared.fault.SetUpFault.TheVariants.{Already, Damaged, Site, Memory as NoMemory}
 use Rattle.satp_app.specs.Init.{InitRule, IsGenesisText, IsReady, NotRead, NotSetUp, Order, Reads, ready_line, set_up_outcome, tells_of}

@@ -11,7 +11,8 @@ use Rattle.satp_base.specs.declared.ledger.LedgerKind.{LedgerKind}
 use Rattle.satp_base.specs.declared.lines.LinesFault.TheVariants as lines
 use Rattle.satp_base.specs.declared.name.Name.{Name}
 use Rattle.satp_records.specs.declared.stored.Setup.{Setup}
-use Rattle.satp_gateway.specs.SettingUp.{IsVacant, NotVacant, Tells, VacantAnswers, plan, tells}
+use Rattle.satp_points.specs.States.{Tells, tells}
+use Rattle.satp_gateway.specs.SettingUp.{IsVacant, NotVacant, VacantAnswers, plan}
 use Rattle.satp_gateway.specs.declared.fault.SetUpFault.{SetUpFault}
 use Rattle.satp_gateway.specs.declared.fault.SetUpFault.TheVariants as fault
 use Rattle.satp_app.specs.Outside.{FailsToRead, OutsideState, Printed, PrintedPart, ReadPart, ReadTo, SiteState, SourceState}

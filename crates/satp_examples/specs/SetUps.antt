@@ -6,7 +6,8 @@ use Rattle.satp_base.specs.Segments.{append_events}
 use Rattle.satp_base.specs.declared.area.Area.TheVariants.{JournalA}
 use Rattle.satp_base.specs.declared.area.Event.TheVariants.{Wrote, Synced}
 use Rattle.satp_base.specs.declared.ledger.LedgerKind.TheVariants.{Accounts}
-use Rattle.satp_gateway.specs.SettingUp.{DecidedBy, FoundsOnce, Plan, SetUpAnswers, Tells, VacantAnswers, founds, plan_of, tells}
+use Rattle.satp_points.specs.States.{Tells, tells}
+use Rattle.satp_gateway.specs.SettingUp.{DecidedBy, FoundsOnce, Plan, SetUpAnswers, VacantAnswers, founds, plan_of}
 use Rattle.satp_gateway.specs.declared.fault.SetUpFault.TheVariants.{Already, Damaged, Site, Memory}
 use Rattle.satp_examples.specs.Appending.{closed, damaged, uncalled}
 use Rattle.satp_examples.specs.Journals.{d}

@@ -11,7 +11,8 @@ use Rattle.satp_base.proofs.Readings.{one_list, one_damage, never_both}
 use Rattle.satp_journal.specs.Opening.{OpenAnswers, open_calls, read_calls}
 use Rattle.satp_journal.specs.State.{gate_of}
 use Rattle.satp_journal.specs.declared.fault.JournalFault.TheVariants as journal
-use Rattle.satp_gateway.specs.SettingUp.{DecidedBy, FailsToEstablish, FailsToOpen, FoundsOnce, Opens, Plan, SetUpAnswers, SetUpDecided, SetsUpVacant, Tells, VacancyAnswers, VacantAnswers, founds, setup_events}
+use Rattle.satp_points.specs.States.{Tells}
+use Rattle.satp_gateway.specs.SettingUp.{DecidedBy, FailsToEstablish, FailsToOpen, FoundsOnce, Opens, Plan, SetUpAnswers, SetUpDecided, SetsUpVacant, VacancyAnswers, VacantAnswers, founds, setup_events}
 use Rattle.satp_gateway.specs.declared.fault.SetUpFault.{SetUpFault}
 use Rattle.satp_gateway.specs.declared.fault.SetUpFault.TheVariants.{Already, Damaged, Site, Memory}
 

@@ -6,7 +6,8 @@ use Rattle.satp_base.specs.Calls.{Told, FailsAmong, calls_of}
 use Rattle.satp_base.specs.Money.{Book}
 use Rattle.satp_base.specs.declared.area.Event.{Event}
 use Rattle.satp_base.specs.declared.site.SiteFault.{SiteFault}
-use Rattle.satp_gateway.specs.SettingUp.{FailsToEstablish, Plan, TellsGenesis, founds, setup_events, tells}
+use Rattle.satp_points.specs.States.{tells}
+use Rattle.satp_gateway.specs.SettingUp.{FailsToEstablish, Plan, TellsGenesis, founds, setup_events}
 
 -- a failed list of calls tells nothing where nothing was told
 tells_on : (calls : List (Option Event)) (old new : Option Told) (P : Type 0) → FailsAmong calls old new → OnSome old P → OnSome new P

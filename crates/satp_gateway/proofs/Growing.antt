@@ -14,7 +14,8 @@ use Rattle.satp_base.proofs.Trails.{extended_twice}
 use Rattle.satp_journal.specs.Opening.{FailsToMend, OpenAnswers, open_calls, read_calls}
 use Rattle.satp_journal.specs.State.{gate_of}
 use Rattle.satp_journal.proofs.OpenLemmas.{opened_events}
-use Rattle.satp_gateway.specs.SettingUp.{FailsToEstablish, FailsToFound, Opens, Plan, Tells, VacancyAnswers, VacantAnswers, founds, setup_events}
+use Rattle.satp_points.specs.States.{Tells}
+use Rattle.satp_gateway.specs.SettingUp.{FailsToEstablish, FailsToFound, Opens, Plan, VacancyAnswers, VacantAnswers, founds, setup_events}
 use Rattle.satp_gateway.specs.SetUpStops.{HasFounded}
 use Rattle.satp_gateway.specs.declared.fault.SetUpFault.{SetUpFault}
 use Rattle.satp_gateway.specs.declared.fault.SetUpFault.TheVariants.{Already, Damaged, Site, Memory}

@@ -20,7 +20,8 @@ use Rattle.satp_base.proofs.Standings.{take_nil}
 use Rattle.satp_base.proofs.Trails.{extended_none, extended_twice, keeps_before, keeps_front}
 use Rattle.satp_journal.specs.Opening.{IsInOpening, OpenStops, Rests}
 use Rattle.satp_journal.proofs.AppendLemmas.{Keeps, trail_is}
-use Rattle.satp_gateway.specs.SettingUp.{Establishes, IsVacant, Opens, Plan, RestsSetUp, Tells, VacancyAnswers, VacantAnswers, founds, setup_events, tells}
+use Rattle.satp_points.specs.States.{Tells, tells}
+use Rattle.satp_gateway.specs.SettingUp.{Establishes, IsVacant, Opens, Plan, RestsSetUp, VacancyAnswers, VacantAnswers, founds, setup_events}
 use Rattle.satp_gateway.specs.SettingUp.{vacant as vacant_journal}
 use Rattle.satp_gateway.specs.SetUpStops.{HasFounded, IsInFounding, IsInSetUp, SetUpStops, VacantRests, VacantStops}
 use Rattle.satp_gateway.specs.declared.fault.SetUpFault.{SetUpFault}

@@ -17,19 +17,12 @@ use Rattle.satp_journal.specs.Opening.{OpenAnswers}
 use Rattle.satp_journal.specs.State.{Held, JournalState}
 use Rattle.satp_journal.specs.declared.fault.JournalFault.{JournalFault}
 use Rattle.satp_journal.specs.declared.fault.JournalFault.TheVariants as journal
+use Rattle.satp_points.specs.States.{Tells, tells}
 use Rattle.satp_records.specs.Formats.{payload_of}
 use Rattle.satp_records.specs.declared.stored.Setup.{Setup}
 use Rattle.satp_records.specs.declared.stored.Stored.TheVariants as stored
 use Rattle.satp_gateway.specs.declared.fault.SetUpFault.{SetUpFault}
 use Rattle.satp_gateway.specs.declared.fault.SetUpFault.TheVariants.{Already, Damaged, Site, Memory}
-
--- what a site tells of its calls and of its ledger
-pub record Tells : Type 0 where
-  pub told : Option Told
-  pub book : Option Book
-
-abbrev pub tells : Option Told → Option Book → Tells
-tells told book = record { told = told; book = book }
 
 -- what is set up: the payload of the journal's first record, and what the ledger is founded with
 pub record Plan : Type 0 where

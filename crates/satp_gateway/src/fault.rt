@@ -8,7 +8,7 @@ use satp_base::{Memory, SiteFault};
 pub enum SetUpFault {
     /// The journal has a record: a gateway is there.
     Already,
-    /// At this place of the journal stands the first open gate without a whole record behind it.
+    /// At this place of the journal stands the first open gate without a whole record after it.
     Damaged { at: u64 },
     /// A call on the site failed.
     Site,
@@ -30,4 +30,19 @@ impl From<SiteFault> for SetUpFault {
     fn from(_fault: SiteFault) -> SetUpFault {
         SetUpFault::Site
     }
+}
+
+/// Why a gateway wasn't opened.
+#[derive(Clone, Copy, Debug, PartialEq, Eq)]
+pub enum OpenFault {
+    /// At this place of the journal stands the first open gate without a whole record after it.
+    Damaged { at: u64 },
+    /// The journal has no record: no gateway was set up.
+    Empty,
+    /// The record at this index, from 0, is the first that may not stand there.
+    Record { index: usize },
+    /// A call on the site failed.
+    Site,
+    /// No memory was found.
+    Memory,
 }

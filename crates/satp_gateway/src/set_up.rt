@@ -7,7 +7,8 @@ ghost use Rattle.satp_base.specs.Segments.{append_events};
 ghost use Rattle.satp_base.specs.Streams.{HasCause};
 ghost use Rattle.satp_base.specs.declared.area.Area.TheVariants.{JournalA};
 ghost use Rattle.satp_journal.specs.State.{Fits};
-ghost use Rattle.satp_gateway.specs.SettingUp.{Establishes, FailsToEstablish, plan_of, tells, vacant};
+ghost use Rattle.satp_points.specs.States.{tells};
+ghost use Rattle.satp_gateway.specs.SettingUp.{Establishes, FailsToEstablish, plan_of, vacant};
 ghost use Rattle.satp_gateway.specs.Steps.{set_up_fault};
 
 use crate::fault::SetUpFault;

@@ -2,7 +2,8 @@ ghost use Rattle.std.specs.Prelude.{◌≡◌, ◌≢◌, ◌≤◌, [], length,
 ghost use Rattle.satp_base.specs.Streams.{Rose};
 ghost use Rattle.satp_journal.specs.Opening.{OpenStops, Rests};
 ghost use Rattle.satp_journal.specs.State.{Fits};
-ghost use Rattle.satp_gateway.specs.SettingUp.{VacancyAnswers, VacantAnswers, plan, tells, vacant};
+ghost use Rattle.satp_points.specs.States.{tells};
+ghost use Rattle.satp_gateway.specs.SettingUp.{VacancyAnswers, VacantAnswers, plan, vacant};
 ghost use Rattle.satp_gateway.specs.SetUpStops.{VacantRests, VacantStops};
 ghost use Rattle.satp_gateway.specs.declared.fault.SetUpFault.{SetUpFault};
 ghost use Rattle.satp_base.specs.declared.area.Area.TheVariants.{JournalA};

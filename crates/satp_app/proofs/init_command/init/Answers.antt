@@ -1,6 +1,6 @@
 use Rattle.std.proofs.Common.{◌≡◌, ◌≢◌, ◌≤◌, ◌∙◌, refl, subst, arith}
 use Rattle.satp_base.specs.Streams.{Rose}
-use Rattle.satp_gateway.specs.SettingUp.{tells}
+use Rattle.satp_points.specs.States.{tells}
 use Rattle.satp_gateway.specs.declared.fault.SetUpFault.TheVariants.{Site}
 use Rattle.satp_app.specs.Init.{IsReady, order}
 use Rattle.satp_app.specs.Outside.{outside, sink, site_state, source, streams}

@@ -8,7 +8,8 @@ use Rattle.satp_base.specs.GenesisText.{AcceptsLine, nothing}
 use Rattle.satp_base.specs.Lines.{Runs, StopsAt, is_line, lines_text}
 use Rattle.satp_base.proofs.GenesisReading.{accepts, asset_of}
 use Rattle.satp_base.proofs.Readings.{one_list}
-use Rattle.satp_gateway.specs.SettingUp.{NotVacant, Opens, Tells, tells}
+use Rattle.satp_points.specs.States.{Tells, tells}
+use Rattle.satp_gateway.specs.SettingUp.{NotVacant, Opens}
 use Rattle.satp_gateway.specs.declared.fault.SetUpFault.{SetUpFault}
 use Rattle.satp_gateway.specs.declared.fault.SetUpFault.TheVariants.{Already, Damaged, Site, Memory as NoMemory}
 use Rattle.satp_gateway.proofs.Deciding.{opens_stands}

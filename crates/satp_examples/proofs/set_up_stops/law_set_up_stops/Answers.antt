@@ -14,7 +14,8 @@ use Rattle.satp_base.proofs.Closing.{either_stands}
 use Rattle.satp_base.proofs.Readings.{one_list}
 use Rattle.satp_journal.specs.Opening.{Finds, Rests}
 use Rattle.satp_journal.proofs.OpenLemmas.{mended_stops, open_rests}
-use Rattle.satp_gateway.specs.SettingUp.{IsVacant, SetUpAnswers, Tells, UnlessFailed, VacantAnswers, tells}
+use Rattle.satp_points.specs.States.{Tells, tells}
+use Rattle.satp_gateway.specs.SettingUp.{IsVacant, SetUpAnswers, UnlessFailed, VacantAnswers}
 use Rattle.satp_gateway.specs.SetUpStops.{IsInFounding, IsInSetUp, SetUpStops, VacantRests, VacantStops}
 use Rattle.satp_gateway.specs.declared.fault.SetUpFault.TheVariants.{Already}
 use Rattle.satp_gateway.proofs.Deciding.{decided}

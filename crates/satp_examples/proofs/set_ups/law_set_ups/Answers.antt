@@ -7,7 +7,8 @@ use Rattle.satp_base.specs.Segments.{append_events}
 use Rattle.satp_base.specs.declared.area.Area.TheVariants.{JournalA}
 use Rattle.satp_base.specs.declared.ledger.LedgerCall.TheVariants.{Found}
 use Rattle.satp_base.proofs.Readings.{never_both, one_damage, one_list}
-use Rattle.satp_gateway.specs.SettingUp.{FoundsOnce, Opens, SetUpAnswers, UnlessFailed, founds, tells}
+use Rattle.satp_points.specs.States.{tells}
+use Rattle.satp_gateway.specs.SettingUp.{FoundsOnce, Opens, SetUpAnswers, UnlessFailed, founds}
 use Rattle.satp_gateway.specs.declared.fault.SetUpFault.TheVariants.{Already, Damaged, Memory}
 use Rattle.satp_examples.specs.Appending.{closed, damaged, opened as journal_of, uncalled}
 use Rattle.satp_examples.specs.Journals.{abc, d}

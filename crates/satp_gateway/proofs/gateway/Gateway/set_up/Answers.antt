@@ -2,7 +2,8 @@ use Rattle.std.proofs.Common.{◌≡◌, ◌∙◌, Ok, Err, Result, inl, inr, r
 use Rattle.std.specs.Result.{IsErrAnd}
 use Rattle.satp_records.specs.declared.stored.Stored.TheVariants as stored
 use Rattle.satp_records.proofs.Payloads.{payloads_fit}
-use Rattle.satp_gateway.specs.SettingUp.{IsVacant, Plan, SetUpAnswers, SetUpDecided, Tells, VacantAnswers, plan, tells}
+use Rattle.satp_points.specs.States.{Tells, tells}
+use Rattle.satp_gateway.specs.SettingUp.{IsVacant, Plan, SetUpAnswers, SetUpDecided, VacantAnswers, plan}
 use Rattle.satp_gateway.specs.declared.fault.SetUpFault.{SetUpFault}
 use Rattle.satp_gateway.proofs.Deciding.{decided, once}
 use Rattle.satp_gateway.proofs.Stopping.{opened_stops, unopened_stops}

@@ -1,7 +1,8 @@
 use Rattle.std.proofs.Common.{◌∙◌, ℕ, List, Ok, Err, refl, subst}
 use Rattle.satp_records.specs.declared.stored.Stored.TheVariants as stored
 use Rattle.satp_records.proofs.Payloads.{payloads_fit}
-use Rattle.satp_gateway.specs.SettingUp.{Establishes, FailsToEstablish, plan, plan_of, tells}
+use Rattle.satp_points.specs.States.{tells}
+use Rattle.satp_gateway.specs.SettingUp.{Establishes, FailsToEstablish, plan, plan_of}
 use Rattle.satp_gateway.specs.declared.fault.SetUpFault.TheVariants.{Site, Memory}
 use Rattle.satp_gateway.proofs.Stopping.{vacant_rests, vacant_stops}
 use Rattle.satp_gateway.proofs.vacancy.Vacancy.set_up.Goals as goal

@@ -1,5 +1,5 @@
-use satp_base::{LedgerKind, Text, Texts, cut_field};
-use satp_words::{Command, WordsFault, read};
+use satp_base::{LedgerKind, SessionId, Text, Texts, cut_field};
+use satp_words::{Command, TransferCommand, WordsFault, read, read_transfer};
 use std::alloc::Global;
 
 const REFUSED: &[u8] = b"refused";
@@ -106,6 +106,76 @@ const ROWS: [(&[u8], &[u8]); 32] = [
     ),
 ];
 
+/// The same of a command on transfers.
+const TRANSFER_ROWS: [(&[u8], &[u8]); 33] = [
+    (
+        b"serve --dir d --listen 127.0.0.1:7002 --connections 1",
+        b"serve d 127.0.0.1:7002 1",
+    ),
+    (
+        b"serve --connections=1000000 --listen=[::1]:7002 --dir=d",
+        b"serve d [::1]:7002 1000000",
+    ),
+    (b"serve --dir d --listen h:1 --connections 0", REFUSED),
+    (b"serve --dir d --listen h:1 --connections 1000001", REFUSED),
+    (b"serve --dir d --listen h:1 --connections 01", REFUSED),
+    (b"serve --dir d --listen h/1 --connections 1", REFUSED),
+    (b"serve --dir d --listen h:1", REFUSED),
+    (
+        b"start --dir d --number 1 --amount 250 --asset gold --from ann --to bob",
+        b"start d 1 250 gold ann bob",
+    ),
+    (
+        b"start --to bob --from ann --asset gold --amount 9007199254740991 --number 4294967295 --dir d --",
+        b"start d 4294967295 9007199254740991 gold ann bob",
+    ),
+    (
+        b"start --dir d --number 0 --amount 250 --asset gold --from ann --to bob",
+        REFUSED,
+    ),
+    (
+        b"start --dir d --number 4294967296 --amount 250 --asset gold --from ann --to bob",
+        REFUSED,
+    ),
+    (
+        b"start --dir d --number 1 --amount 0 --asset gold --from ann --to bob",
+        REFUSED,
+    ),
+    (
+        b"start --dir d --number 1 --amount 250 --asset Gold --from ann --to bob",
+        REFUSED,
+    ),
+    (
+        b"start --dir d --number 1 --amount 250 --asset gold --from ann",
+        REFUSED,
+    ),
+    (
+        b"start --dir d --number 1 --number 1 --amount 250 --asset gold --from ann --to bob",
+        REFUSED,
+    ),
+    (b"resume --dir d --session alpha.1", b"resume d alpha.1"),
+    (
+        b"recover --session=alpha.4294967295 --dir d",
+        b"recover d alpha.4294967295",
+    ),
+    (b"abort --dir d --session beta.7", b"abort d beta.7"),
+    (b"show --dir d --session beta.7", b"show d beta.7"),
+    (b"show --dir d --session beta.0", REFUSED),
+    (b"resume --dir d --session alpha", REFUSED),
+    (b"recover --dir d", REFUSED),
+    (b"abort --session beta.7", REFUSED),
+    (b"replay", b"replay"),
+    (b"replay --", b"replay"),
+    (b"replay --dir d", REFUSED),
+    (b"drill --seed 0", b"drill 0"),
+    (b"drill --seed 4294967295", b"drill 4294967295"),
+    (b"drill --seed 4294967296", REFUSED),
+    (b"drill --seed 00", REFUSED),
+    (b"drill --seed=", REFUSED),
+    (b"drill", REFUSED),
+    (b"check", REFUSED),
+];
+
 /// Adds the words of a line.
 fn add(alloc: Global, words: &mut Texts, line: &[u8]) {
     let mut rest = line;
@@ -177,6 +247,87 @@ fn put_answer(text: &mut Text, answer: &Result<Command, WordsFault>) {
     }
 }
 
+/// Puts a number in decimal.
+fn put_number(text: &mut Text, number: u64) {
+    let mut buffer = itoa::Buffer::new();
+    put(text, buffer.format(number).as_bytes());
+}
+
+/// Puts the command of a session with its values.
+fn put_session(text: &mut Text, verb: &[u8], dir: &Text, session: &SessionId) {
+    put(text, verb);
+    put_value(text, dir.bytes());
+    put_value(text, session.gateway.bytes());
+    put(text, b".");
+    put_number(text, u64::from(session.number));
+}
+
+/// Puts the command on transfers with its values.
+fn put_transfer(text: &mut Text, command: &TransferCommand) {
+    match command {
+        TransferCommand::Serve {
+            dir,
+            listen,
+            connections,
+        } => {
+            put(text, b"serve");
+            put_value(text, dir.bytes());
+            put_value(text, listen.bytes());
+            put(text, b" ");
+            put_number(text, u64::from(*connections));
+        }
+        TransferCommand::Start {
+            dir,
+            number,
+            amount,
+            asset,
+            from,
+            to,
+        } => {
+            put(text, b"start");
+            put_value(text, dir.bytes());
+            put(text, b" ");
+            put_number(text, u64::from(*number));
+            put(text, b" ");
+            put_number(text, amount.get());
+            put_value(text, asset.bytes());
+            put_value(text, from.bytes());
+            put_value(text, to.bytes());
+        }
+        TransferCommand::Resume { dir, session } => put_session(text, b"resume", dir, session),
+        TransferCommand::Recover { dir, session } => put_session(text, b"recover", dir, session),
+        TransferCommand::Abort { dir, session } => put_session(text, b"abort", dir, session),
+        TransferCommand::Show { dir, session } => put_session(text, b"show", dir, session),
+        TransferCommand::Replay => put(text, b"replay"),
+        TransferCommand::Drill { seed } => {
+            put(text, b"drill ");
+            put_number(text, u64::from(*seed));
+        }
+    }
+}
+
+fn put_transfer_answer(text: &mut Text, answer: &Result<TransferCommand, WordsFault>) {
+    match answer {
+        Ok(command) => put_transfer(text, command),
+        Err(WordsFault::Refused) => put(text, REFUSED),
+        Err(WordsFault::Memory) => put(text, b"no memory"),
+    }
+}
+
+/// Whether a reading of transfers gives what a row of theirs wants.
+fn is_transfer_as_wanted(alloc: Global, line: &[u8], wanted: &[u8]) -> bool {
+    let mut words = Texts::new(alloc);
+    add(alloc, &mut words, line);
+    let answer = read_transfer(alloc, &words);
+    match Text::copy(alloc, b"") {
+        Ok(mut text) => {
+            put_transfer_answer(&mut text, &answer);
+            text.bytes() == wanted
+        }
+        Err(_) => false,
+    }
+}
+
 fn is_as_wanted(alloc: Global, line: &[u8], wanted: &[u8]) -> bool {
     let mut words = Texts::new(alloc);
     add(alloc, &mut words, line);
@@ -196,5 +347,8 @@ fn lines_of_words(rt: HostRuntime) {
     let other = ROWS
         .iter()
         .position(|(line, wanted)| !is_as_wanted(alloc, line, wanted));
-    assert_eq!(rt; other, None);
+    let other_transfer = TRANSFER_ROWS.iter().position(|(line, wanted)| !is_transfer_as_wanted(
+        alloc, line, wanted,
+    ));
+    assert_eq!(rt; (other, other_transfer), (None, None));
 }

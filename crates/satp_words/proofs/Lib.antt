@@ -1,3 +1,5 @@
 pub mod Texts
 pub mod KeyTexts
 pub mod Listings
+pub mod Zeros
+pub mod TransferListings

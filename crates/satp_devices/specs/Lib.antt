@@ -1,3 +1,4 @@
 pub mod Counting
+pub mod OpenStreams
 pub mod Places
 pub mod Untold

@@ -1,9 +1,0 @@
-pub mod Room
-pub mod Exchanging
-pub mod Stepping
-pub mod Saying
-pub mod Traffic
-pub mod Pieces
-pub mod Hearing
-pub mod Reading
-pub mod Keeping

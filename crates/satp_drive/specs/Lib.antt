@@ -1,8 +1,0 @@
-pub mod Replies
-pub mod Phrases
-pub mod Faults
-pub mod Exchange
-pub mod Feeding
-pub mod Connections
-pub mod Laws
-pub mod Refusals

@@ -1,0 +1,9 @@
+pub mod Room
+pub mod Exchanging
+pub mod Stepping
+pub mod Saying
+pub mod Hearing
+pub mod Reading
+pub mod Keeping
+pub mod Viewing
+pub mod GatewayKeeping

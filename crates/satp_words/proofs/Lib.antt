@@ -2,4 +2,4 @@ pub mod Texts
 pub mod KeyTexts
 pub mod Listings
 pub mod Zeros
-pub mod TransferListings
+pub mod OneCommand

@@ -1,98 +1,99 @@
--- Words list one command at most, with one line for each command.
+-- The first word picks a command, and its options have its values.
 use Rattle.std.proofs.Common.{◌≡◌, ◌≢◌, ◌∙◌, ◌+◌, List, [], ◌∷◌, length, Option, Some, None, Result, Ok, Err, codes, false, true, refl, ap, subst, sym, arith}
-use Rattle.std.specs.Prelude.{if◌then◌else◌, slice_get, IfOk, MatchResult}
+use Rattle.std.specs.Prelude.{ℕ, if◌then◌else◌, slice_get}
 use Rattle.std.specs.Str.{bytes_eq}
 use Rattle.std.specs.Result.{IsErrAnd}
-use Rattle.clap.specs.Words.{App, Text, first_of, first_value, found_of}
+use Rattle.clap.specs.Words.{Text, first_of, first_value, found_of}
 use Rattle.clap.specs.declared.parser.matches.ArgMatches.{ArgMatches}
 use Rattle.clap.proofs.WalkLemmas.{first_value-rows}
 use Rattle.satp_base.specs.Values.{name_text}
-use Rattle.satp_base.proofs.Exact.{same_address_text, same_text}
+use Rattle.satp_base.proofs.Exact.{same_text}
 use Rattle.satp_base.proofs.Equalities.{equal_names, name_test}
-use Rattle.satp_base.proofs.SignatureLemmas.{same_bytes}
 use Rattle.satp_base.specs.declared.fault.NameFault.{NameFault}
 use Rattle.satp_base.specs.declared.address.Address.{Address}
+use Rattle.satp_base.specs.declared.amount.Amount.{Amount}
 use Rattle.satp_base.specs.declared.ledger.LedgerKind.{LedgerKind}
-use Rattle.satp_base.specs.declared.ledger.LedgerKind.TheVariants.{Accounts, Outputs}
 use Rattle.satp_base.specs.declared.name.Name.{Name}
+use Rattle.satp_base.specs.declared.session.SessionId.{SessionId}
 use Rattle.satp_words.specs.Options.{HasMatches, IsUtf8All, value}
-use Rattle.satp_words.specs.Commands.{Begins, HasCheck, HasInit, InitValues, IsCommand, IsKey, IsListed, MayBe, NotListed, check, init, ledger_text}
+use Rattle.satp_words.specs.Commands.{Begins, HasOptions, HasValues, IsCommand, IsListed, NotListed, form, verb_of, verb_text}
 use Rattle.satp_words.specs.declared.command.Command.{Command}
-use Rattle.satp_words.specs.declared.command.Command.TheVariants.{Answer, Check, Init}
-use Rattle.satp_words.specs.declared.command.WordsFault.{WordsFault}
-use Rattle.satp_words.specs.declared.command.WordsFault.TheVariants.{Refused, Memory}
+use Rattle.satp_words.specs.declared.command.Command.TheVariants.{Answer, Check, Init, Serve, Start, Resume, Recover, Abort, Show}
+use Rattle.satp_words.specs.declared.verbs.Verb.{Verb}
+use Rattle.satp_words.specs.declared.verbs.Verb.TheVariants as verb
 
-same_some : {X : Type 0} (a b : X) → Some a ≡ Some b → a ≡ b
+pub same_some : {X : Type 0} (a b : X) → Some a ≡ Some b → a ≡ b
 same_some a b e = cc
 
 -- ---- a first word names one command
 
-data Verb : Type 0 where
-  to_answer : Verb
-  to_check : Verb
-  to_init : Verb
+-- the first word of a command, `answer` if it takes no options
+abbrev first_text : Option Verb → Text
+first_text None = codes "answer"
+first_text (Some v) = verb_text v
 
-abbrev verb_of : Command → Verb
-verb_of (Answer name) = to_answer
-verb_of (Check key) = to_check
-verb_of (Init dir name peer at key ledger) = to_init
+abbrev verb_at : Text → Option (Option Verb)
+verb_at w =
+    if bytes_eq w (codes "answer") then Some None
+    else (if bytes_eq w (codes "check") then Some (Some verb.Check)
+    else (if bytes_eq w (codes "init") then Some (Some verb.Init)
+    else (if bytes_eq w (codes "serve") then Some (Some verb.Serve)
+    else (if bytes_eq w (codes "start") then Some (Some verb.Start)
+    else (if bytes_eq w (codes "resume") then Some (Some verb.Resume)
+    else (if bytes_eq w (codes "recover") then Some (Some verb.Recover)
+    else (if bytes_eq w (codes "abort") then Some (Some verb.Abort)
+    else (if bytes_eq w (codes "show") then Some (Some verb.Show) else None))))))))
 
-abbrev verb_text : Verb → Text
-verb_text to_answer = codes "answer"
-verb_text to_check = codes "check"
-verb_text to_init = codes "init"
+at_text : (v : Option Verb) → verb_at (first_text v) ≡ Some v
+at_text None = refl
+at_text (Some verb.Check) = refl
+at_text (Some verb.Init) = refl
+at_text (Some verb.Serve) = refl
+at_text (Some verb.Start) = refl
+at_text (Some verb.Resume) = refl
+at_text (Some verb.Recover) = refl
+at_text (Some verb.Abort) = refl
+at_text (Some verb.Show) = refl
 
-abbrev verb_at : Text → Option Verb
-verb_at w = if bytes_eq w (codes "answer") then Some to_answer else (if bytes_eq w (codes "check") then Some to_check else (if bytes_eq w (codes "init") then Some to_init else None))
-
-at_text : (v : Verb) → verb_at (verb_text v) ≡ Some v
-at_text to_answer = refl
-at_text to_check = refl
-at_text to_init = refl
-
-begins_of : (words : List Text) (c : Command) → IsListed words c → Begins words (verb_text (verb_of c))
-begins_of words (Answer name) l = (name_text name ∷ [], l)
-begins_of words (Check key) l = l.0.first
-begins_of words (Init dir name peer at key ledger) l = l.0.first
+same_verb : (v w : Option Verb) → first_text v ≡ first_text w → v ≡ w
+same_verb v w e = same_some _ _ (sym (at_text v) ∙ ap verb_at e ∙ at_text w)
 
 first_or : List Text → Text
 first_or [] = []
 first_or (w ∷ ws) = w
 
-same_verb : (words : List Text) (v : Verb) → Begins words (verb_text v) → (c : Command) → IsListed words c → verb_of c ≡ v
+one_first : (words : List Text) (a b : Text) → Begins words a → Begins words b → a ≡ b
 unfolding first_or
-same_verb words v b c l =
-    let other = begins_of words c l in
-    let texts : verb_text (verb_of c) ≡ verb_text v = ap first_or (sym other.1 ∙ b.1) in
-    same_some _ _ (sym (at_text (verb_of c)) ∙ ap verb_at texts ∙ at_text v)
+one_first words a b p q = ap first_or (sym p.1 ∙ q.1)
 
--- words that begin with a verb list no command where they list none of that verb
-pub only_answer : (words : List Text) → Begins words (codes "answer") → ((name : Name) → words ≢ codes "answer" ∷ name_text name ∷ []) → NotListed words
-only_answer words b h (Answer name) l = h name l
-only_answer words b h (Check key) l = let e = same_verb words to_answer b (Check key) l in cc
-only_answer words b h (Init dir name peer at key ledger) l = let e = same_verb words to_answer b (Init dir name peer at key ledger) l in cc
+begins_of : (words : List Text) (c : Command) → IsListed words c → Begins words (first_text (verb_of c))
+begins_of words (Answer name) l = (name_text name ∷ [], l)
+begins_of words (Check key) l = l.is_command.first
+begins_of words (Init dir name peer at key ledger) l = l.is_command.first
+begins_of words (Serve dir listen connections) l = l.is_command.first
+begins_of words (Start dir number amount asset from to) l = l.is_command.first
+begins_of words (Resume dir session) l = l.is_command.first
+begins_of words (Recover dir session) l = l.is_command.first
+begins_of words (Abort dir session) l = l.is_command.first
+begins_of words (Show dir session) l = l.is_command.first
 
-pub only_check : (words : List Text) → Begins words (codes "check") → ((c : Command) → IsCommand (codes "check") check words → ¬ HasCheck (value check words) c) → NotListed words
-only_check words b h (Answer name) l = let e = same_verb words to_check b (Answer name) l in cc
-only_check words b h (Check key) l = h (Check key) l.0 l.1
-only_check words b h (Init dir name peer at key ledger) l = let e = same_verb words to_check b (Init dir name peer at key ledger) l in cc
+-- the first word of a listed command is its verb
+pub is_verb : (words : List Text) (v : Option Verb) → Begins words (first_text v) → (c : Command) → IsListed words c → verb_of c ≡ v
+is_verb words v b c l = same_verb (verb_of c) v (one_first words _ _ (begins_of words c l) b)
 
-pub only_init : (words : List Text) → Begins words (codes "init") → ((c : Command) → IsCommand (codes "init") init words → ¬ HasInit (value init words) c) → NotListed words
-only_init words b h (Answer name) l = let e = same_verb words to_init b (Answer name) l in cc
-only_init words b h (Check key) l = let e = same_verb words to_init b (Check key) l in cc
-only_init words b h (Init dir name peer at key ledger) l = h (Init dir name peer at key ledger) l.0 l.1
+pub is_of_verb : (words : List Text) (v : Verb) → Begins words (verb_text v) → (c : Command) → IsListed words c → verb_of c ≡ Some v
+is_of_verb words v = is_verb words (Some v)
 
--- words that begin with no verb
-unknown : (words : List Text) → ((v : Verb) → ¬ Begins words (verb_text v)) → NotListed words
-unknown words h c l = h (verb_of c) (begins_of words c l)
+-- no words list none, and neither do those that begin with no verb
+pub none_listed : (words : List Text) → None ≡ slice_get words 0 → NotListed words
+none_listed words none c l = let some : None ≡ Some (first_text (verb_of c)) = none ∙ ap (λ ws. slice_get ws 0) (begins_of words c l).1 in cc
 
-pub no_verb : (words : List Text) (w : Text) → Some w ≡ slice_get words 0 → w ≢ codes "answer" → w ≢ codes "check" → w ≢ codes "init" → NotListed words
-no_verb words w got not_answer not_check not_init = unknown words λ v b. other v (same_some w (verb_text v) (got ∙ ap (λ ws. slice_get ws 0) b.1))
+pub no_verb : (words : List Text) (w : Text) → Some w ≡ slice_get words 0 → w ≢ codes "answer" → ((v : Verb) → w ≢ verb_text v) → NotListed words
+no_verb words w got not_answer other c l = not_first (verb_of c) (same_some w _ (got ∙ ap (λ ws. slice_get ws 0) (begins_of words c l).1))
   where
-    other : (v : Verb) → w ≢ verb_text v
-    other to_answer = not_answer
-    other to_check = not_check
-    other to_init = not_init
+    not_first : (v : Option Verb) → w ≢ first_text v
+    not_first None = not_answer
+    not_first (Some v) = other v
 
 -- the first word
 pub begins : (words : List Text) (w name : Text) → Some w ≡ slice_get words 0 → w ≡ name → Begins words name
@@ -101,20 +102,31 @@ begins (x ∷ xs) w name g e = (xs, ap (λ y. y ∷ xs) (sym (same_some w x g) �
 
 -- ---- `answer`
 
+pub only_answer : (words : List Text) → Begins words (codes "answer") → ((name : Name) → words ≢ codes "answer" ∷ name_text name ∷ []) → NotListed words
+only_answer words b h c l = of_none c (is_verb words None b c l) l
+  where
+    of_none : (c : Command) → verb_of c ≡ None → ¬ IsListed words c
+    of_none (Answer name) e l = h name l
+    of_none (Check key) e l = cc
+    of_none (Init dir name peer at key ledger) e l = cc
+    of_none (Serve dir listen connections) e l = cc
+    of_none (Start dir number amount asset from to) e l = cc
+    of_none (Resume dir session) e l = cc
+    of_none (Recover dir session) e l = cc
+    of_none (Abort dir session) e l = cc
+    of_none (Show dir session) e l = cc
+
 pub two : (a : Text) (rest words : List Text) (w : Text) → words ≡ a ∷ rest → length words ≡ 2 → Some w ≡ slice_get words 1 → words ≡ a ∷ w ∷ []
 two a [] words w e l g = let bad : length words ≡ 1 = ap length e in absurd (omega arith)
 two a (r ∷ []) words w e l g = e ∙ ap (λ x. a ∷ x ∷ []) (sym (same_some w r (g ∙ ap (λ ws. slice_get ws 1) e)))
 two a (r ∷ s ∷ rest) words w e l g = let bad : length words ≡ length rest + 3 = ap length e ∙ omega arith in absurd (omega arith)
 
+not_both : {T E : Type 0} (x : Result T E) (t : T) (d : E) → x ≡ Ok t → x ≡ Err d → ⊥
+not_both x t d p q = absurd cc
+
 -- the second word is no name
 pub no_answer : (words : List Text) (w : Text) (f : NameFault) (r : Result Name NameFault) → Some w ≡ slice_get words 1 → r ≡ Err f → ((n : Name) → w ≡ name_text n → r ≡ Ok n) → (name : Name) → words ≢ codes "answer" ∷ name_text name ∷ []
-no_answer words w f r got is complete name e =
-    let same : w ≡ name_text name = same_some w _ (got ∙ ap (λ ws. slice_get ws 1) e) in
-    let other = complete name same in
-    not_both r name f other is
-  where
-    not_both : {T E : Type 0} (x : Result T E) (t : T) (d : E) → x ≡ Ok t → x ≡ Err d → ⊥
-    not_both x t d p q = absurd cc
+no_answer words w f r got is complete name e = not_both r name f (complete name (same_some w _ (got ∙ ap (λ ws. slice_get ws 1) e))) is
 
 -- ---- options
 
@@ -130,52 +142,19 @@ pub same_error : {T E : Type 0} (a b : E) (r : Result T E) → r ≡ Err a → r
 unfolding error_or
 same_error a b r e f = ap (error_or a) (sym e ∙ f)
 
-pub is_command : (name : Text) (a : App) (words : List Text) (m : ArgMatches) → Begins words name → IsUtf8All words → HasMatches a words m → IsCommand name a words
-is_command name a words m first utf8 matches = record { first = first; utf8 = utf8; taken = matches.taken }
-
-pub value_is : (a : App) (words : List Text) (m : ArgMatches) (id : Text) → HasMatches a words m → first_value (found_of m) id ≡ value a words id
-value_is a words m id h = first_value-rows (found_of m) id ∙ ap (first_of id) h.rows
+pub is_command : (v : Verb) (words : List Text) (m : ArgMatches) → Begins words (verb_text v) → IsUtf8All words → HasMatches (form v) words m → IsCommand (verb_text v) (form v) words
+is_command v words m first utf8 matches = record { first = first; utf8 = utf8; taken = matches.taken }
 
 -- the value of the option is the one that was found
-pub same_check : (v w : Text → Option Text) → ((id : Text) → v id ≡ w id) → (c : Command) → HasCheck v c → HasCheck w c
-same_check v w e (Answer name) h = h
-same_check v w e (Check key) h = subst (λ o. MayBe IsKey o key) (e (codes "key")) h
-same_check v w e (Init dir name peer at key ledger) h = h
+pub value_is : (v : Verb) (words : List Text) (m : ArgMatches) (id : Text) → HasMatches (form v) words m → first_value (found_of m) id ≡ value (form v) words id
+value_is v words m id h = first_value-rows (found_of m) id ∙ ap (first_of id) h.rows
 
-pub same_init : (v w : Text → Option Text) → ((id : Text) → v id ≡ w id) → (c : Command) → HasInit v c → HasInit w c
-same_init v w e (Answer name) h = h
-same_init v w e (Check key) h = h
-same_init v w e (Init dir name peer at key ledger) h = record {
-  has_dir = sym (e (codes "dir")) ∙ h.has_dir;
-  has_name = sym (e (codes "name")) ∙ h.has_name;
-  has_peer = sym (e (codes "peer")) ∙ h.has_peer;
-  has_at = sym (e (codes "at")) ∙ h.has_at;
-  has_key = (h.has_key.0, sym (e (codes "key")) ∙ h.has_key.1, h.has_key.2);
-  has_ledger = sym (e (codes "ledger")) ∙ h.has_ledger;
-  apart = h.apart;
-}
-
-pub listed_check : (words : List Text) (c : Command) → IsCommand (codes "check") check words → HasCheck (value check words) c → IsListed words c
-listed_check words (Answer name) k h = absurd h
-listed_check words (Check key) k h = (k, h)
-listed_check words (Init dir name peer at key ledger) k h = absurd h
-
-pub listed_init : (words : List Text) (c : Command) → IsCommand (codes "init") init words → HasInit (value init words) c → IsListed words c
-listed_init words (Answer name) k h = absurd h
-listed_init words (Check key) k h = absurd h
-listed_init words (Init dir name peer at key ledger) k h = (k, h)
-
-pub of_init : (v : Text → Option Text) → ((dir : Text) (name peer : Name) (at : Address) (key : Text) (ledger : LedgerKind) → ¬ InitValues v dir name peer at key ledger) → (c : Command) → ¬ HasInit v c
-of_init v h (Answer name) x = absurd x
-of_init v h (Check key) x = absurd x
-of_init v h (Init dir name peer at key ledger) x = h dir name peer at key ledger x
+pub same_values : (v w : Text → Option Text) → ((id : Text) → v id ≡ w id) → (c : Command) → HasValues v c → HasValues w c
+same_values v w e c h = subst (λ (u : Text → Option Text). HasValues u c) (λ i id. e id i) h
 
 -- the text of an option is none that a reader takes
 pub no_value : {T E : Type 0} (text_of : T → Text) (v : Option Text) (t : Text) (r : Result T E) (f : E) → Some t ≡ v → r ≡ Err f → ((x : T) → t ≡ text_of x → r ≡ Ok x) → (x : T) → v ≢ Some (text_of x)
 no_value text_of v t r f got is complete x e = not_both r x f (complete x (same_some t (text_of x) (got ∙ e))) is
-  where
-    not_both : {A B : Type 0} (y : Result A B) (a : A) (b : B) → y ≡ Ok a → y ≡ Err b → ⊥
-    not_both y a b p q = absurd cc
 
 pub differ : (a b : Name) → false ≡ name_test a b → a ≢ b
 differ a b e same = let bad : false ≡ true = (equal_names a b false e).1 same in absurd cc
@@ -184,58 +163,59 @@ differ a b e same = let bad : false ≡ true = (equal_names a b false e).1 same 
 pub one_name : (v w : Option Text) (a b x y : Name) → v ≡ Some (name_text a) → w ≡ Some (name_text b) → v ≡ Some (name_text x) → w ≡ Some (name_text y) → a ≡ b → x ≡ y
 one_name v w a b x y va wb vx wy e = sym (same_text a x (same_some _ _ (sym va ∙ vx))) ∙ e ∙ same_text b y (same_some _ _ (sym wb ∙ wy))
 
--- ---- words list one command at most
+-- ---- commands of a verb
 
-same_key : (value key other : Option Text) → MayBe IsKey value key → MayBe IsKey value other → key ≡ other
-same_key None None None a b = refl
-same_key None None (Some l) a b = absurd b
-same_key None (Some k) l a b = absurd a
-same_key (Some t) None l a b = absurd a
-same_key (Some t) (Some k) None a b = absurd b
-same_key (Some t) (Some k) (Some l) a b = ap Some (same_bytes k l a.bytes b.bytes (sym a.is_text ∙ b.is_text))
+-- this holds of each command of a verb
+abbrev Each : (Command → Type 0) → Option Verb → Type 0
+Each P None = (name : Name) → P (Answer name)
+Each P (Some verb.Check) = (key : Option (List ℕ)) → P (Check key)
+Each P (Some verb.Init) = (dir : List ℕ) (name peer : Name) (at : Address) (key : List ℕ) (ledger : LedgerKind) → P (Init dir name peer at key ledger)
+Each P (Some verb.Serve) = (dir : List ℕ) (listen : Address) (connections : ℕ) → P (Serve dir listen connections)
+Each P (Some verb.Start) = (dir : List ℕ) (number : ℕ) (amount : Amount) (asset from to : Name) → P (Start dir number amount asset from to)
+Each P (Some verb.Resume) = (dir : List ℕ) (session : SessionId) → P (Resume dir session)
+Each P (Some verb.Recover) = (dir : List ℕ) (session : SessionId) → P (Recover dir session)
+Each P (Some verb.Abort) = (dir : List ℕ) (session : SessionId) → P (Abort dir session)
+Each P (Some verb.Show) = (dir : List ℕ) (session : SessionId) → P (Show dir session)
 
-abbrev ledger_at : Text → LedgerKind
-ledger_at w = if bytes_eq w (codes "accounts") then Accounts else Outputs
+pub of_verb : (P : Command → Type 0) (v : Option Verb) → Each P v → (c : Command) → verb_of c ≡ v → P c
+of_verb P v h (Answer name) e = subst (Each P) (sym e) h name
+of_verb P v h (Check key) e = subst (Each P) (sym e) h key
+of_verb P v h (Init dir name peer at key ledger) e = subst (Each P) (sym e) h dir name peer at key ledger
+of_verb P v h (Serve dir listen connections) e = subst (Each P) (sym e) h dir listen connections
+of_verb P v h (Start dir number amount asset from to) e = subst (Each P) (sym e) h dir number amount asset from to
+of_verb P v h (Resume dir session) e = subst (Each P) (sym e) h dir session
+of_verb P v h (Recover dir session) e = subst (Each P) (sym e) h dir session
+of_verb P v h (Abort dir session) e = subst (Each P) (sym e) h dir session
+of_verb P v h (Show dir session) e = subst (Each P) (sym e) h dir session
 
-at_ledger : (g : LedgerKind) → ledger_at (ledger_text g) ≡ g
-at_ledger Accounts = refl
-at_ledger Outputs = refl
+-- words list a command of a verb exactly if they are of that verb and its options have the values
+pub options_of : (v : Verb) (words : List Text) (c : Command) → verb_of c ≡ Some v → IsListed words c → HasOptions v words c
+options_of v words (Answer name) e l = absurd cc
+options_of v words (Check key) e l = subst (λ w. HasOptions w words (Check key)) (same_some _ _ e) l
+options_of v words (Init dir name peer at key ledger) e l = subst (λ w. HasOptions w words (Init dir name peer at key ledger)) (same_some _ _ e) l
+options_of v words (Serve dir listen connections) e l = subst (λ w. HasOptions w words (Serve dir listen connections)) (same_some _ _ e) l
+options_of v words (Start dir number amount asset from to) e l = subst (λ w. HasOptions w words (Start dir number amount asset from to)) (same_some _ _ e) l
+options_of v words (Resume dir session) e l = subst (λ w. HasOptions w words (Resume dir session)) (same_some _ _ e) l
+options_of v words (Recover dir session) e l = subst (λ w. HasOptions w words (Recover dir session)) (same_some _ _ e) l
+options_of v words (Abort dir session) e l = subst (λ w. HasOptions w words (Abort dir session)) (same_some _ _ e) l
+options_of v words (Show dir session) e l = subst (λ w. HasOptions w words (Show dir session)) (same_some _ _ e) l
 
-same_ledger : (g h : LedgerKind) → ledger_text g ≡ ledger_text h → g ≡ h
-same_ledger g h e = sym (at_ledger g) ∙ ap ledger_at e ∙ at_ledger h
+listed_by : (words : List Text) (v : Verb) (c : Command) → HasOptions v words c → verb_of c ≡ Some v → IsListed words c
+listed_by words verb.Check c o e = of_verb (λ c. HasOptions verb.Check words c → IsListed words c) (Some verb.Check) (λ key o. o) c e o
+listed_by words verb.Init c o e = of_verb (λ c. HasOptions verb.Init words c → IsListed words c) (Some verb.Init) (λ dir name peer at key ledger o. o) c e o
+listed_by words verb.Serve c o e = of_verb (λ c. HasOptions verb.Serve words c → IsListed words c) (Some verb.Serve) (λ dir listen connections o. o) c e o
+listed_by words verb.Start c o e = of_verb (λ c. HasOptions verb.Start words c → IsListed words c) (Some verb.Start) (λ dir number amount asset from to o. o) c e o
+listed_by words verb.Resume c o e = of_verb (λ c. HasOptions verb.Resume words c → IsListed words c) (Some verb.Resume) (λ dir session o. o) c e o
+listed_by words verb.Recover c o e = of_verb (λ c. HasOptions verb.Recover words c → IsListed words c) (Some verb.Recover) (λ dir session o. o) c e o
+listed_by words verb.Abort c o e = of_verb (λ c. HasOptions verb.Abort words c → IsListed words c) (Some verb.Abort) (λ dir session o. o) c e o
+listed_by words verb.Show c o e = of_verb (λ c. HasOptions verb.Show words c → IsListed words c) (Some verb.Show) (λ dir session o. o) c e o
 
-one_init : (v : Text → Option Text) (d d' : Text) (n n' p p' : Name) (a a' : Address) (k k' : Text) (g g' : LedgerKind) → InitValues v d n p a k g → InitValues v d' n' p' a' k' g' → Init d n p a k g ≡ Init d' n' p' a' k' g'
-one_init v d d' n n' p p' a a' k k' g g' l m =
-    let dir = same_some d d' (sym l.has_dir ∙ m.has_dir) in
-    let name = same_text n n' (same_some _ _ (sym l.has_name ∙ m.has_name)) in
-    let peer = same_text p p' (same_some _ _ (sym l.has_peer ∙ m.has_peer)) in
-    let at = same_address_text a a' (same_some _ _ (sym l.has_at ∙ m.has_at)) in
-    let text : l.has_key.0 ≡ m.has_key.0 = same_some _ _ (sym l.has_key.1 ∙ m.has_key.1) in
-    let key = same_bytes k k' l.has_key.2.bytes m.has_key.2.bytes (sym l.has_key.2.is_text ∙ text ∙ m.has_key.2.is_text) in
-    let ledger = same_ledger g g' (same_some _ _ (sym l.has_ledger ∙ m.has_ledger)) in
-    λ i. Init (dir i) (name i) (peer i) (at i) (key i) (ledger i)
+pub listed : (words : List Text) (v : Verb) (c : Command) → IsCommand (verb_text v) (form v) words → (verb_of c ≡ Some v) × HasValues (value (form v) words) c → IsListed words c
+listed words v c k (e, h) = listed_by words v c (record { is_command = k; has_values = h }) e
 
-pub same_command : (words : List Text) (a b : Command) → IsListed words a → IsListed words b → a ≡ b
-same_command words (Answer n) (Answer m) l k = ap Answer (same_text n m (second (name_text n) (name_text m) (sym l ∙ k)))
-  where
-    second : (x y : Text) → codes "answer" ∷ x ∷ [] ≡ codes "answer" ∷ y ∷ [] → x ≡ y
-    second x y e = cc
-same_command words (Answer n) (Check key) l k = let e = same_verb words to_answer (begins_of words (Answer n) l) (Check key) k in cc
-same_command words (Check key) (Answer n) l k = let e = same_verb words to_check (begins_of words (Check key) l) (Answer n) k in cc
-same_command words (Check key) (Check other) l k = ap Check (same_key (value check words (codes "key")) key other l.1 k.1)
-same_command words (Answer n) (Init dir name peer at key ledger) l k = let e = same_verb words to_answer (begins_of words (Answer n) l) (Init dir name peer at key ledger) k in cc
-same_command words (Check n) (Init dir name peer at key ledger) l k = let e = same_verb words to_check (begins_of words (Check n) l) (Init dir name peer at key ledger) k in cc
-same_command words (Init dir name peer at key ledger) (Answer n) l k = let e = same_verb words to_init (begins_of words (Init dir name peer at key ledger) l) (Answer n) k in cc
-same_command words (Init dir name peer at key ledger) (Check n) l k = let e = same_verb words to_init (begins_of words (Init dir name peer at key ledger) l) (Check n) k in cc
-same_command words (Init d n p a k g) (Init d' n' p' a' k' g') l m = one_init (value init words) d d' n n' p p' a a' k k' g g' l.1 m.1
-
--- so where they list one, no other is read
-pub complete_of : (words : List Text) (r : Result Command WordsFault) → IfOk r (IsListed words) → (r ≡ Err Refused → NotListed words) → (command : Command) → IsListed words command → MatchResult r (λ found. found ≡ command) (λ fault. fault ≡ Memory)
-complete_of words (Ok found) listed refused command l = same_command words found command listed l
-complete_of words (Err Refused) listed refused command l = absurd (refused refl command l)
-complete_of words (Err Memory) listed refused command l = refl
-
--- an error is no command
-pub no_command : (r : Result Command WordsFault) (P : WordsFault → Type 0) (Q : Command → Type 0) → IsErrAnd r P → IfOk r Q
-no_command (Ok command) P Q h = absurd h
-no_command (Err fault) P Q h = tt
+-- words that begin with a verb list no command where they list none of that verb
+pub only : (words : List Text) (v : Verb) → Begins words (verb_text v) → ((c : Command) → verb_of c ≡ Some v → IsCommand (verb_text v) (form v) words → ¬ HasValues (value (form v) words) c) → NotListed words
+only words v b h c l =
+    let e = is_of_verb words v b c l in
+    let o = options_of v words c e l in
+    h c e o.is_command o.has_values

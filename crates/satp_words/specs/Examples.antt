@@ -2,8 +2,9 @@
 use Rattle.std.specs.Prelude.{◌≡◌, true, List, [], ◌∷◌, ◌++◌, Some, None, codes}
 use Rattle.clap.specs.Words.{App, Text, fault_of}
 use Rattle.clap.specs.declared.error.kind.ErrorKind.TheVariants as kind
-use Rattle.satp_words.specs.Commands.{check, init}
+use Rattle.satp_words.specs.Commands.{form}
 use Rattle.satp_words.specs.Options.{Takes, app, named, value}
+use Rattle.satp_words.specs.declared.verbs.Verb.TheVariants as verb
 
 -- a command with two options that have to be there
 abbrev pub two : App
@@ -39,6 +40,12 @@ pub record RefusesOptions : Type 0 where
   pub end_as_value : fault_of two (words (codes "--number=7") (codes "--dir") (codes "--")) ≡ kind.InvalidValue ∷ []
   -- an option left out that has to be there
   pub missing : fault_of two (codes "two" ∷ codes "--dir=a" ∷ []) ≡ kind.MissingRequiredArgument ∷ []
+
+abbrev pub check : App
+check = form verb.Check
+
+abbrev pub init : App
+init = form verb.Init
 
 -- the base64url of 32 zeros
 abbrev pub key : Text
@@ -91,3 +98,32 @@ pub record InitsWords : Type 0 where
   pub twice : fault_of init (init_apart ++ codes "--dir=d" ∷ []) ≡ kind.ArgumentConflict ∷ []
   pub word_too_many : fault_of init (init_attached ++ codes "more" ∷ []) ≡ kind.UnknownArgument ∷ []
   pub unknown : fault_of init (init_attached ++ codes "--log=l" ∷ []) ≡ kind.UnknownArgument ∷ []
+
+-- ---- commands on transfers
+
+abbrev pub serve : App
+serve = form verb.Serve
+
+abbrev pub start : App
+start = form verb.Start
+
+abbrev pub recover : App
+recover = form verb.Recover
+
+abbrev pub start_words : List Text
+start_words = codes "start" ∷ codes "--to=bob" ∷ codes "--dir" ∷ codes "d" ∷ codes "--number" ∷ codes "1" ∷ codes "--amount" ∷ codes "250" ∷ codes "--asset=gold" ∷ codes "--from" ∷ codes "ann" ∷ []
+
+abbrev pub serve_words : List Text
+serve_words = codes "serve" ∷ codes "--dir" ∷ codes "d" ∷ codes "--listen" ∷ codes "127.0.0.1:80" ∷ []
+
+pub record TransfersWords : Type 0 where
+  pub start_taken : Takes start start_words
+  pub from : value start start_words (codes "from") ≡ Some (codes "ann")
+  pub to : value start start_words (codes "to") ≡ Some (codes "bob")
+  pub serve_taken : Takes serve (serve_words ++ codes "--connections=1" ∷ [])
+  pub connections : value serve (serve_words ++ codes "--connections=1" ∷ []) (codes "connections") ≡ Some (codes "1")
+  pub session : value recover (codes "recover" ∷ codes "--session=alpha.1" ∷ codes "--dir" ∷ codes "d" ∷ []) (codes "session") ≡ Some (codes "alpha.1")
+  -- an option left out, one of another command, and a session without the option's name
+  pub no_connections : fault_of serve serve_words ≡ kind.MissingRequiredArgument ∷ []
+  pub of_another : fault_of start (start_words ++ codes "--session=alpha.1" ∷ []) ≡ kind.UnknownArgument ∷ []
+  pub bare_session : fault_of recover (codes "recover" ∷ codes "--dir" ∷ codes "d" ∷ codes "alpha.1" ∷ []) ≡ kind.UnknownArgument ∷ []

@@ -1,4 +1,4 @@
-use satp_base::{Address, LedgerKind, Memory, Name, Text};
+use satp_base::{Address, Amount, LedgerKind, Memory, Name, SessionId, Text};
 use std::alloc::AllocError;
 
 /// What a command line asks the program to do.
@@ -25,6 +25,41 @@ pub enum Command {
         at: Address,
         key: Text,
         ledger: LedgerKind,
+    },
+    /// `serve --dir <dir> --listen <address> --connections <count>`: serve so many connections, 1 to 1,000,000, one after the other.
+    Serve {
+        dir: Text,
+        listen: Address,
+        connections: u32,
+    },
+    /// `start --dir <dir> --number <number> --amount <amount> --asset <asset> --from <name> --to <name>`: begin the transfer of this number, 1 to 4,294,967,295, and drive it to its end.
+    Start {
+        dir: Text,
+        number: u32,
+        amount: Amount,
+        asset: Name,
+        from: Name,
+        to: Name,
+    },
+    /// `resume --dir <dir> --session <session>`: drive a session on.
+    Resume {
+        dir: Text,
+        session: SessionId,
+    },
+    /// `recover --dir <dir> --session <session>`: compare the logs of a session with the peer, and end it.
+    Recover {
+        dir: Text,
+        session: SessionId,
+    },
+    /// `abort --dir <dir> --session <session>`: decide for the rollback of a session.
+    Abort {
+        dir: Text,
+        session: SessionId,
+    },
+    /// `show --dir <dir> --session <session>`: print a session.
+    Show {
+        dir: Text,
+        session: SessionId,
     },
 }
 

@@ -3,20 +3,17 @@
 
 mod arguments;
 mod command;
-mod init_words;
+mod command_values;
+mod forms;
 mod keys;
 mod laws;
 mod numbers;
 mod options;
 mod reader;
-mod transfer;
-mod transfer_reader;
-mod transfer_values;
 mod values;
+mod verbs;
 
 pub use arguments::words_of;
 pub use command::{Command, WordsFault};
-pub use laws::{law_examples, law_one_command, law_one_transfer};
+pub use laws::{law_examples, law_one_command};
 pub use reader::read;
-pub use transfer::TransferCommand;
-pub use transfer_reader::read_transfer;

@@ -6,8 +6,7 @@ ghost use Rattle.satp_base.specs.declared.amount.Amount.{Amount};
 ghost use Rattle.satp_base.specs.declared.ledger.LedgerKind.{LedgerKind};
 ghost use Rattle.satp_base.specs.declared.name.Name.{Name};
 ghost use Rattle.satp_base.specs.declared.session.SessionId.{SessionId};
-ghost use Rattle.satp_words.specs.Commands.{IsKey, ledger_text};
-ghost use Rattle.satp_words.specs.Transfers.{IsNumber};
+ghost use Rattle.satp_words.specs.Commands.{IsKey, IsNumber, ledger_text};
 
 use crate::command::WordsFault;
 use crate::keys::key;

@@ -61,3 +61,17 @@ returns-clause-init c = record {
   word_too_many = refl;
   unknown = refl;
 }
+
+pub returns-clause-transfers : goal.returns-clause-transfers
+unfolding clap_on_literals
+returns-clause-transfers c = record {
+  start_taken = refl;
+  from = refl;
+  to = refl;
+  serve_taken = refl;
+  connections = refl;
+  session = refl;
+  no_connections = refl;
+  of_another = refl;
+  bare_session = refl;
+}

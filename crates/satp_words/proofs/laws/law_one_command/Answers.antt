@@ -1,4 +1,4 @@
-use Rattle.satp_words.proofs.Listings.{same_command}
+use Rattle.satp_words.proofs.OneCommand.{same_command}
 use Rattle.satp_words.proofs.laws.law_one_command.Goals as goal
 
 pub returns : goal.returns

@@ -1,5 +1,6 @@
 use Rattle.std.proofs.Common.{◌∙◌, refl, ap, sym, Some, List, ℕ, codes, ◌∷◌, []}
-use Rattle.satp_words.proofs.Listings.{no_answer, only_answer, same_command, two}
+use Rattle.satp_words.proofs.Listings.{no_answer, only_answer, two}
+use Rattle.satp_words.proofs.OneCommand.{same_command}
 use Rattle.satp_words.specs.declared.command.Command.TheVariants.{Answer}
 use Rattle.satp_words.proofs.reader.answer.Goals as goal
 

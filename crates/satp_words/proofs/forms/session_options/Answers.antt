@@ -2,8 +2,8 @@ use Rattle.std.proofs.Common.{◌≡◌, ◌∷◌, [], List, map, sym, subst}
 use Rattle.std.specs.Prelude.{IfOk}
 use Rattle.clap.specs.Words.{Rule}
 use Rattle.satp_words.specs.Options.{HasMatches, Takes, app, rule}
-use Rattle.satp_words.specs.Transfers.{of_session}
-use Rattle.satp_words.proofs.transfer_reader.session_options.Goals as goal
+use Rattle.satp_words.specs.Commands.{of_session}
+use Rattle.satp_words.proofs.forms.session_options.Goals as goal
 
 pub returns-clause-ok : goal.returns-clause-ok
 returns-clause-ok c =

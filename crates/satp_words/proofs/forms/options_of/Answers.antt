@@ -1,8 +1,8 @@
 use Rattle.std.proofs.Common.{◌≡◌, ◌∷◌, [], List, codes, map, sym, subst}
 use Rattle.clap.specs.Words.{Rule}
 use Rattle.satp_words.specs.Options.{Takes, app, rule}
-use Rattle.satp_words.specs.Transfers.{form, needed}
-use Rattle.satp_words.proofs.transfer_reader.options_of.Goals as goal
+use Rattle.satp_words.specs.Commands.{form, needed}
+use Rattle.satp_words.proofs.forms.options_of.Goals as goal
 
 pub returns-in-Serve-clause-refused : goal.returns-in-Serve-clause-refused
 returns-in-Serve-clause-refused c e taken =

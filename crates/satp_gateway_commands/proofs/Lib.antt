@@ -1,0 +1,4 @@
+pub mod Openings
+pub mod Refusing
+pub mod Places
+pub mod Works

@@ -1,0 +1,4 @@
+pub mod AtGateway
+pub mod ShowLines
+pub mod Showing
+pub mod Aborting

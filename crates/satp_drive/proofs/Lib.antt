@@ -1,0 +1,4 @@
+pub mod Beginning
+pub mod DriveLaw
+pub mod HeardBytes
+pub mod Talking

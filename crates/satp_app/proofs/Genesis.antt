@@ -6,7 +6,7 @@ use Rattle.satp_base.specs.Lines.{Fails}
 use Rattle.satp_base.specs.declared.lines.LinesFault.{LinesFault}
 use Rattle.satp_base.specs.declared.lines.LinesFault.TheVariants.{Line}
 use Rattle.satp_app.specs.Init.{IsRefusedAt, Reads}
-use Rattle.satp_app.specs.Outside.{ReadTo, SourceState}
+use Rattle.satp_outcome.specs.Outside.{ReadTo, SourceState}
 
 take_short : (n : ℕ) (xs : List ℕ) → length xs ≤ n → take n xs ≡ xs
 take_short zero [] h = refl

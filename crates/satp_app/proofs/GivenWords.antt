@@ -1,5 +1,5 @@
 -- A run over the words that the arguments have is one over the arguments, and so is one without memory for them.
-use Rattle.std.proofs.Common.{◌≡◌, ℕ, List, Result, Ok, Err, refl, subst, inl, inr}
+use Rattle.std.proofs.Common.{ℕ, List, Result, Ok, Err, refl, subst, inl, inr}
 use Rattle.std.specs.Global.{Global}
 use Rattle.std.specs.declared.io.Error.{Error}
 use Rattle.std.specs.declared.string.String.{String}
@@ -7,9 +7,9 @@ use Rattle.std.specs.declared.vec.IntoIter.{IntoIter}
 use Rattle.satp_base.specs.declared.stream.SinkFault.{SinkFault}
 use Rattle.satp_app.specs.Arguments.{ArgumentsRule, HasWords}
 use Rattle.satp_app.specs.Commands.{Reports, RunRule}
-use Rattle.satp_app.specs.Outcomes.{line_of}
-use Rattle.satp_app.specs.Outside.{OutsideState, Says, SinkState}
-use Rattle.satp_app.specs.declared.outcome.Outcome.TheVariants.{Memory}
+use Rattle.satp_outcome.specs.Outcomes.{line_of}
+use Rattle.satp_outcome.specs.Outside.{OutsideState, Says, SinkState}
+use Rattle.satp_outcome.specs.declared.outcome.Outcome.TheVariants.{Memory}
 
 pub run_over : (arguments : Result (IntoIter (String Global) Global) Error) (words : List (List ℕ)) (b a : OutsideState) (old new : SinkState) (status : ℕ)
     → HasWords arguments words → RunRule words b a old new status → ArgumentsRule arguments b a old new status

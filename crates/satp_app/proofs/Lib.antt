@@ -1,10 +1,7 @@
 mod GivenWords
-pub mod Reading
-pub mod Writing
-pub mod Ends
-pub mod Inputs
-pub mod Lines
 pub mod Genesis
 pub mod SetUpEnds
 pub mod OneEnd
 pub mod OneReply
+pub mod OneLine
+pub mod OneInit

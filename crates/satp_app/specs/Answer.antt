@@ -18,11 +18,11 @@ use Rattle.satp_base.specs.declared.message.Message.{Message}
 use Rattle.satp_base.specs.declared.record.Next.TheVariants.{Append}
 use Rattle.satp_base.specs.declared.record.Rec.TheVariants.{Made}
 use Rattle.satp_canon.specs.FirstFault.{first_fault}
-use Rattle.satp_app.specs.Texts.{IsOnly}
-use Rattle.satp_app.specs.declared.outcome.Refusal.{Refusal}
-use Rattle.satp_app.specs.declared.outcome.Refusal.TheVariants.{Text, Signature, Kind as OtherKind, Receiver}
-use Rattle.satp_app.specs.declared.reply.Reply.{Reply}
-use Rattle.satp_app.specs.declared.reply.Reply.TheVariants.{Lines, Refuses}
+use Rattle.satp_outcome.specs.Texts.{IsOnly}
+use Rattle.satp_outcome.specs.declared.outcome.InputEnd.{InputEnd}
+use Rattle.satp_outcome.specs.declared.outcome.InputEnd.TheVariants.{Text, Kind as OtherKind, Receiver}
+use Rattle.satp_outcome.specs.declared.reply.Reply.{Reply}
+use Rattle.satp_outcome.specs.declared.reply.Reply.TheVariants.{Lines, Refuses}
 
 -- the terms that a message proposes
 abbrev pub part_terms : Part → Option Terms
@@ -53,12 +53,12 @@ abbrev pub Proposes : List ℕ → Message → Terms → Type 0
 Proposes text m terms = IsOnly text m × (terms_proposed m.body ≡ Some terms)
 
 -- what the command replies to a text
-abbrev pub refuses : Name → List ℕ → Refusal → Type 0
+abbrev pub refuses : Name → List ℕ → InputEnd → Type 0
 refuses name text (Text fault) = first_fault text ≡ Some fault
 refuses name text OtherKind = (m : Message) × IsOnly text m × (terms_proposed m.body ≡ None)
 refuses name text Receiver = (m : Message) × (terms : Terms) × Proposes text m terms × (m.receiver ≢ name)
-refuses name text (Signature fault) = ⊥
+refuses name text _ = ⊥
 
 abbrev pub answer_says : Name → List ℕ → Reply → Type 0
 answer_says name text (Lines line) = (m : Message) × (terms : Terms) × Proposes text m terms × (m.receiver ≡ name) × Answers name terms m text line
-answer_says name text (Refuses refusal) = refuses name text refusal
+answer_says name text (Refuses end) = refuses name text end

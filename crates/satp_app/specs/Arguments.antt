@@ -8,7 +8,7 @@ use Rattle.std.specs.declared.io.ErrorKind.TheVariants.{OutOfMemory}
 use Rattle.std.specs.declared.string.String.{String}
 use Rattle.std.specs.declared.vec.IntoIter.{IntoIter}
 use Rattle.satp_app.specs.Commands.{RunRule}
-use Rattle.satp_app.specs.Outside.{OutsideState, SinkState}
+use Rattle.satp_outcome.specs.Outside.{OutsideState, SinkState}
 use Rattle.satp_words.specs.Arguments.{words_of}
 
 -- The words are the arguments behind the program's name. Where there was an argument that is no text there are no words, and where no memory was found

@@ -6,11 +6,11 @@ use Rattle.satp_base.specs.declared.message.Kind.{Kind}
 use Rattle.satp_base.specs.declared.message.Message.{Message}
 use Rattle.satp_canon.specs.FirstFault.{first_fault}
 use Rattle.satp_jws.specs.Faults.{header_fault, jws_fault, payload_of}
-use Rattle.satp_app.specs.Texts.{IsOnly}
-use Rattle.satp_app.specs.declared.outcome.Refusal.{Refusal}
-use Rattle.satp_app.specs.declared.outcome.Refusal.TheVariants.{Text, Signature, Kind as OtherKind, Receiver}
-use Rattle.satp_app.specs.declared.reply.Reply.{Reply}
-use Rattle.satp_app.specs.declared.reply.Reply.TheVariants.{Lines, Refuses}
+use Rattle.satp_outcome.specs.Texts.{IsOnly}
+use Rattle.satp_outcome.specs.declared.outcome.InputEnd.{InputEnd}
+use Rattle.satp_outcome.specs.declared.outcome.InputEnd.TheVariants.{Text, Signature}
+use Rattle.satp_outcome.specs.declared.reply.Reply.{Reply}
+use Rattle.satp_outcome.specs.declared.reply.Reply.TheVariants.{Lines, Refuses}
 
 -- `text transfer-proposal 242 bytes`, and a newline
 abbrev pub line : List ℕ → Kind → ℕ → List ℕ
@@ -18,13 +18,13 @@ line form kind n = form ++ kind_text kind ++ codes " " ++ decimal n ++ (codes " 
 
 -- ---- without a key
 
-abbrev pub check_refuses : List ℕ → Refusal → Type 0
+abbrev pub check_refuses : List ℕ → InputEnd → Type 0
 check_refuses text (Text fault) = first_fault text ≡ Some fault
 check_refuses text _ = ⊥
 
 abbrev pub check_says : List ℕ → Reply → Type 0
 check_says text (Lines printed) = (m : Message) × IsOnly text m × (printed ≡ line (codes "text ") (kind_of m.body) (length text))
-check_says text (Refuses refusal) = check_refuses text refusal
+check_says text (Refuses end) = check_refuses text end
 
 -- ---- with a key
 
@@ -35,11 +35,11 @@ pub record IsSigned (key text payload : List ℕ) : Type 0 where
   pub accepted : header_fault header ≡ None
   pub signed : text ≡ jws key header payload
 
-abbrev pub signed_refuses : List ℕ → List ℕ → Refusal → Type 0
+abbrev pub signed_refuses : List ℕ → List ℕ → InputEnd → Type 0
 signed_refuses key text (Signature fault) = jws_fault key text ≡ Some fault
 signed_refuses key text (Text fault) = (payload : List ℕ) × IsSigned key text payload × (first_fault payload ≡ Some fault)
 signed_refuses key text _ = ⊥
 
 abbrev pub signed_says : List ℕ → List ℕ → Reply → Type 0
 signed_says key text (Lines printed) = (payload : List ℕ) × (m : Message) × IsSigned key text payload × IsOnly payload m × (printed ≡ line (codes "jws ") (kind_of m.body) (length text))
-signed_says key text (Refuses refusal) = signed_refuses key text refusal
+signed_says key text (Refuses end) = signed_refuses key text end

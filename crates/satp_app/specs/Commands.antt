@@ -1,24 +1,45 @@
 -- What each command does, and what a run of the program does.
-use Rattle.std.specs.Prelude.{◌≡◌, ◌⊎◌, ℕ, List, Option, Some, None}
+use Rattle.std.specs.Prelude.{◌≡◌, ◌⊎◌, ℕ, List, Some, None}
 use Rattle.satp_app.specs.Answer.{answer_says}
 use Rattle.satp_app.specs.Check.{check_says, signed_says}
 use Rattle.satp_app.specs.Init.{InitRule, order, setup_of}
-use Rattle.satp_app.specs.Outcomes.{line_of, status_of}
-use Rattle.satp_app.specs.Outside.{OutsideState, Printed, PrintedPart, SinkState}
-use Rattle.satp_app.specs.Streams.{StreamRule}
-use Rattle.satp_app.specs.Texts.{text_form}
-use Rattle.satp_app.specs.declared.outcome.Outcome.{Outcome}
-use Rattle.satp_app.specs.declared.outcome.Outcome.TheVariants.{WordsRefused, Memory}
+use Rattle.satp_base.specs.declared.amount.Amount.{Amount}
+use Rattle.satp_base.specs.declared.message.Terms.{Terms}
+use Rattle.satp_base.specs.declared.name.Name.{Name}
+use Rattle.satp_gateway_commands.specs.Aborting.{AbortWorks}
+use Rattle.satp_gateway_commands.specs.AtGateway.{AtGateway}
+use Rattle.satp_gateway_commands.specs.Showing.{ShowWorks}
+use Rattle.satp_outcome.specs.Outcomes.{line_of, status_of}
+use Rattle.satp_outcome.specs.Outside.{OutsideState, Printed, PrintedPart, SinkState}
+use Rattle.satp_outcome.specs.Streams.{StreamRule}
+use Rattle.satp_outcome.specs.Texts.{text_form}
+use Rattle.satp_outcome.specs.declared.outcome.Outcome.{Outcome}
+use Rattle.satp_outcome.specs.declared.outcome.Outcome.TheVariants.{WordsRefused, Memory}
+use Rattle.satp_peer_commands.specs.Driving.{RecoverWorks, ResumeWorks, StartWorks}
+use Rattle.satp_peer_commands.specs.Serving.{ServeWorks}
 use Rattle.satp_words.specs.Commands.{IsListed, NotListed}
 use Rattle.satp_words.specs.declared.command.Command.{Command}
-use Rattle.satp_words.specs.declared.command.Command.TheVariants.{Answer, Check, Init}
+use Rattle.satp_words.specs.declared.command.Command.TheVariants.{Answer, Check, Init, Abort, Show, Serve, Start, Resume, Recover}
+
+-- neither the site nor the wire was touched
+abbrev pub LeavesPlace : OutsideState → OutsideState → Type 0
+LeavesPlace b a = (a.site ≡ b.site) × (a.wire ≡ b.wire)
+
+abbrev pub terms_of : Amount → Name → Name → Name → Terms
+terms_of amount asset from to = record { amount = amount; asset = asset; originator = from; beneficiary = to }
 
 -- One line for each command: how it ends, and how the outside then stands.
 abbrev pub CommandRule : Command → OutsideState → OutsideState → Outcome → Type 0
-CommandRule (Answer name) b a outcome = StreamRule text_form (answer_says name) b.streams a.streams outcome × (a.site ≡ b.site)
-CommandRule (Check None) b a outcome = StreamRule text_form check_says b.streams a.streams outcome × (a.site ≡ b.site)
-CommandRule (Check (Some key)) b a outcome = StreamRule text_form (signed_says key) b.streams a.streams outcome × (a.site ≡ b.site)
+CommandRule (Answer name) b a outcome = StreamRule text_form (answer_says name) b.streams a.streams outcome × LeavesPlace b a
+CommandRule (Check None) b a outcome = StreamRule text_form check_says b.streams a.streams outcome × LeavesPlace b a
+CommandRule (Check (Some key)) b a outcome = StreamRule text_form (signed_says key) b.streams a.streams outcome × LeavesPlace b a
 CommandRule (Init dir name peer at key ledger) b a outcome = InitRule (order dir (setup_of name peer at key) ledger) b a outcome
+CommandRule (Abort dir session) b a outcome = AtGateway dir (AbortWorks session) b a outcome
+CommandRule (Show dir session) b a outcome = AtGateway dir (ShowWorks session) b a outcome
+CommandRule (Serve dir listen connections) b a outcome = AtGateway dir (ServeWorks listen connections) b a outcome
+CommandRule (Start dir number amount asset from to) b a outcome = AtGateway dir (StartWorks number (terms_of amount asset from to)) b a outcome
+CommandRule (Resume dir session) b a outcome = AtGateway dir (ResumeWorks session) b a outcome
+CommandRule (Recover dir session) b a outcome = AtGateway dir (RecoverWorks session) b a outcome
 
 -- the command that the words list ends so
 abbrev pub Listed : List (List ℕ) → OutsideState → OutsideState → Outcome → Type 0

@@ -1,6 +1,5 @@
 -- The command `init`: a gateway is set up in a directory, with the genesis on the input.
-use Rattle.std.specs.Prelude.{◌≡◌, ◌≢◌, ◌⊎◌, ℕ, ◌+◌, ◌<◌, ◌≤◌, List, [], ◌∷◌, ◌++◌, length, codes, Option, None, IfSome, option_map, Result, Ok, Err}
-use Rattle.satp_base.specs.Calls.{MayMiss, enter_failed, entered}
+use Rattle.std.specs.Prelude.{◌≡◌, ◌≢◌, ◌⊎◌, ℕ, ◌+◌, ◌<◌, ◌≤◌, List, [], ◌∷◌, ◌++◌, length, codes, Result, Ok, Err}
 use Rattle.satp_base.specs.Founding.{Founding}
 use Rattle.satp_base.specs.GenesisText.{AcceptsLine, most_bytes, nothing}
 use Rattle.satp_base.specs.Lines.{Fails, IsLines}
@@ -11,14 +10,17 @@ use Rattle.satp_base.specs.declared.ledger.LedgerKind.{LedgerKind}
 use Rattle.satp_base.specs.declared.lines.LinesFault.TheVariants as lines
 use Rattle.satp_base.specs.declared.name.Name.{Name}
 use Rattle.satp_records.specs.declared.stored.Setup.{Setup}
-use Rattle.satp_points.specs.States.{Tells, tells}
+use Rattle.satp_points.specs.States.{Tells}
 use Rattle.satp_gateway.specs.SettingUp.{IsVacant, NotVacant, VacantAnswers, plan}
 use Rattle.satp_gateway.specs.declared.fault.SetUpFault.{SetUpFault}
 use Rattle.satp_gateway.specs.declared.fault.SetUpFault.TheVariants as fault
-use Rattle.satp_app.specs.Outside.{FailsToRead, OutsideState, Printed, PrintedPart, ReadPart, ReadTo, SiteState, SourceState}
-use Rattle.satp_app.specs.Streams.{IsInput}
-use Rattle.satp_app.specs.declared.outcome.Outcome.{Outcome}
-use Rattle.satp_app.specs.declared.outcome.Outcome.TheVariants.{Done, WordsRefused, InputLong, Refused, Memory, InputFailed, OutputFailed, GenesisRefused, SiteFailed, JournalDamaged, GatewayThere}
+use Rattle.satp_gateway_commands.specs.AtGateway.{Enters, FailsToEnter, tells_of}
+use Rattle.satp_outcome.specs.Outside.{FailsToRead, OutsideState, Printed, PrintedPart, ReadPart, ReadTo, SourceState}
+use Rattle.satp_outcome.specs.Streams.{IsInput}
+use Rattle.satp_outcome.specs.declared.outcome.Outcome.{Outcome}
+use Rattle.satp_outcome.specs.declared.outcome.InputEnd.TheVariants as input
+use Rattle.satp_outcome.specs.declared.outcome.Outcome.TheVariants.{Done, Memory, InputFailed, OutputFailed, Input, Place}
+use Rattle.satp_outcome.specs.declared.outcome.PlaceEnd.TheVariants as place
 
 -- what is to be set up, and where
 pub record Order : Type 0 where
@@ -34,30 +36,20 @@ setup_of name peer at key = record { name = name; peer = peer; at = at; key = ke
 
 -- ---- the journal in the directory
 
--- the directory was entered
-pub record Enters (dir : List ℕ) (b a : Tells) : Type 0 where
-  pub told : a.told ≡ option_map (entered dir) b.told
-  pub book : a.book ≡ b.book
-
--- it was not: the failed call is told by name, or only counted where no memory was found to note it
-pub record FailsToEnter (dir : List ℕ) (b a : Tells) : Type 0 where
-  pub told : MayMiss (enter_failed dir) [] b.told a.told
-  pub book : a.book ≡ b.book
-
 -- the directory was entered, and then the journal there was opened, which has no record
 abbrev pub IsReady : List ℕ → Tells → Tells → Type 0
 IsReady dir b a = (inside : Tells) × Enters dir b inside × IsVacant inside a
 
 abbrev pub set_up_outcome : SetUpFault → Outcome
-set_up_outcome fault.Already = GatewayThere
-set_up_outcome (fault.Damaged at) = JournalDamaged at
-set_up_outcome fault.Site = SiteFailed
+set_up_outcome fault.Already = Place place.GatewayThere
+set_up_outcome (fault.Damaged at) = Place (place.JournalDamaged at)
+set_up_outcome fault.Site = Place place.Site
 set_up_outcome fault.Memory = Memory
 
 -- the directory was not entered; or it was, and then the journal was not opened or has a record
 abbrev pub NotReady : List ℕ → Tells → Tells → Outcome → Type 0
 NotReady dir b a outcome =
-    (FailsToEnter dir b a × (outcome ≡ SiteFailed))
+    (FailsToEnter dir b a × (outcome ≡ Place place.Site))
     ⊎ ((inside : Tells) × (fault : SetUpFault) × Enters dir b inside × NotVacant fault inside a × (outcome ≡ set_up_outcome fault))
 
 -- ---- the genesis on the input
@@ -77,16 +69,13 @@ abbrev pub IsRefusedAt : ℕ → List ℕ → Type 0
 IsRefusedAt number bytes = Fails AcceptsLine most_bytes bytes nothing (lines.Line number)
 
 abbrev pub NotRead : SourceState → SourceState → Outcome → Type 0
-NotRead b a InputLong = Reads b a (λ bytes. most_bytes < length bytes)
-NotRead b a (GenesisRefused number) = Reads b a (IsRefusedAt number)
+NotRead b a (Input input.Long) = Reads b a (λ bytes. most_bytes < length bytes)
+NotRead b a (Input (input.GenesisLine number)) = Reads b a (IsRefusedAt number)
 NotRead b a InputFailed = FailsToRead (most_bytes + 1) b a
 NotRead b a Memory = ReadPart (most_bytes + 1) b a ⊎ ReadTo (most_bytes + 1) b a
 NotRead b a _ = ⊥
 
 -- ---- the set-up
-
-abbrev pub tells_of : SiteState → Tells
-tells_of s = tells s.told s.book
 
 -- the genesis was read after the opening of the journal, and the set-up over the open journal answered this
 pub record SetsUp (o : Order) (b a : OutsideState) (answer : Result (Unit {0}) SetUpFault) : Type 0 where
@@ -98,7 +87,7 @@ pub record SetsUp (o : Order) (b a : OutsideState) (answer : Result (Unit {0}) S
 
 -- it failed
 abbrev pub NotSetUp : Order → OutsideState → OutsideState → Outcome → Type 0
-NotSetUp o b a SiteFailed = SetsUp o b a (Err fault.Site)
+NotSetUp o b a (Place place.Site) = SetsUp o b a (Err fault.Site)
 NotSetUp o b a Memory = SetsUp o b a (Err fault.Memory)
 NotSetUp o b a _ = ⊥
 
@@ -126,7 +115,8 @@ pub data InitEnds (o : Order) (b a : OutsideState) (outcome : Outcome) : Type 0 
 
 pub record InitRule (o : Order) (b a : OutsideState) (outcome : Outcome) : Type 0 where
   pub ends : InitEnds o b a outcome
+  pub wire : a.wire ≡ b.wire
   pub later : b.site.faults ≤ a.site.faults
-  pub cause : outcome ≡ SiteFailed → Rose b.site.faults a.site.faults
+  pub cause : outcome ≡ Place place.Site → Rose b.site.faults a.site.faults
   -- no other end hides a fault of the site
-  pub kept : outcome ≢ SiteFailed → a.site.faults ≡ b.site.faults
+  pub kept : outcome ≢ Place place.Site → a.site.faults ≡ b.site.faults

@@ -1,7 +1,3 @@
-pub mod Outside
-pub mod Outcomes
-pub mod Streams
-pub mod Texts
 pub mod Answer
 pub mod Check
 pub mod Init

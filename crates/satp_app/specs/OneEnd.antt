@@ -1,14 +1,16 @@
--- Where all is told, a command that reads a text ends in one way.
+-- Where all is told, a command that reads a text ends in one way, and so does one that sets a gateway up.
 use Rattle.std.specs.Prelude.{◌≡◌, ◌≢◌, ℕ, ◌<◌, ◌≤◌, ◌^◌, ◌-◌, List, length, Some}
+use Rattle.satp_base.specs.Calls.{Told}
 use Rattle.satp_base.specs.declared.name.Name.{Name}
 use Rattle.satp_app.specs.Answer.{answer_says}
 use Rattle.satp_app.specs.Check.{check_says, signed_says}
-use Rattle.satp_app.specs.Outside.{StreamsState}
-use Rattle.satp_app.specs.Streams.{Form, StreamRule}
-use Rattle.satp_app.specs.Texts.{text_form}
-use Rattle.satp_app.specs.declared.outcome.Outcome.{Outcome}
-use Rattle.satp_app.specs.declared.outcome.Outcome.TheVariants.{Memory}
-use Rattle.satp_app.specs.declared.reply.Reply.{Reply}
+use Rattle.satp_app.specs.Init.{InitRule, Order}
+use Rattle.satp_outcome.specs.Outside.{OutsideState, StreamsState}
+use Rattle.satp_outcome.specs.Streams.{Form, StreamRule}
+use Rattle.satp_outcome.specs.Texts.{text_form}
+use Rattle.satp_outcome.specs.declared.outcome.Outcome.{Outcome}
+use Rattle.satp_outcome.specs.declared.outcome.Outcome.TheVariants.{Memory}
+use Rattle.satp_outcome.specs.declared.reply.Reply.{Reply}
 
 -- a text that isn't too long has one reply
 abbrev pub OneReply : Form → (List ℕ → Reply → Type 0) → Type 0
@@ -34,3 +36,14 @@ OneCheck = OneEnd text_form check_says
 -- a check under a key, where a text has one reply
 abbrev pub OneSignedCheck : Type 0
 OneSignedCheck = (key : List ℕ) → OneReply text_form (signed_says key) → OneEnd text_form (signed_says key)
+
+-- input and site are told, and neither count of faults stands at its end
+pub record TellsAll (b : OutsideState) : Type 0 where
+  pub input : TellsInput b.streams
+  pub calls : Told
+  pub told : b.site.told ≡ Some calls
+  pub below : b.site.faults < 2 ^ 64 - 1
+
+-- two ends of a set-up that go with the same states are one, but for want of memory
+abbrev pub OneInit : Type 0
+OneInit = (o : Order) (b a : OutsideState) → TellsAll b → (p q : Outcome) → p ≢ Memory → q ≢ Memory → InitRule o b a p → InitRule o b a q → p ≡ q

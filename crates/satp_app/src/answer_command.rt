@@ -1,16 +1,14 @@
 ghost use Rattle.std.specs.Prelude.{◌≡◌, false, IfOk};
 ghost use Rattle.satp_app.specs.Answer.{Answers, Due, answer_says, terms_proposed};
-ghost use Rattle.satp_app.specs.Outside.{sink, source, streams};
-ghost use Rattle.satp_app.specs.Streams.{StreamRule};
-ghost use Rattle.satp_app.specs.Texts.{text_form};
+ghost use Rattle.satp_outcome.specs.Outside.{sink, source, streams};
+ghost use Rattle.satp_outcome.specs.Streams.{StreamRule};
+ghost use Rattle.satp_outcome.specs.Texts.{text_form};
 
-use crate::outcome::{Outcome, Refusal};
-use crate::reply::Reply;
-use crate::streams::{LONGEST_INPUT, conclude, read_to, text_on};
 use satp_base::{
     Body, Kind, Memory, Message, Name, Next, Part, Rec, Role, Sink, Source, Terms, Text, View,
 };
 use satp_canon::{CanonFault, link_of, read, write};
+use satp_outcome::{InputEnd, LONGEST_INPUT, Outcome, Reply, conclude, read_to, text_on};
 use satp_recipient::next;
 use std::alloc::Global;
 
@@ -31,7 +29,7 @@ pub(crate) fn answer<I: Source, K: Sink>(
     match read_to(alloc, input, LONGEST_INPUT) {
         Ok(held) => match text_on(held.bytes()) {
             Some(text) => conclude(out, reply(alloc, name, text)),
-            None => Outcome::InputLong,
+            None => Outcome::Input(InputEnd::Long),
         },
         Err(outcome) => outcome,
     }
@@ -44,13 +42,13 @@ fn reply(alloc: Global, name: Name, text: &[u8]) -> Result<Reply, Memory>
     let message = match read(alloc, text) {
         Ok(message) => message,
         Err(CanonFault::Memory) => return Err(Memory),
-        Err(fault) => return Ok(Reply::Refuses(Refusal::Text(fault))),
+        Err(fault) => return Ok(Reply::Refuses(InputEnd::Text(fault))),
     };
     let Some(terms) = terms_proposed(&message) else {
-        return Ok(Reply::Refuses(Refusal::Kind));
+        return Ok(Reply::Refuses(InputEnd::Kind));
     };
     if message.receiver != name {
-        return Ok(Reply::Refuses(Refusal::Receiver));
+        return Ok(Reply::Refuses(InputEnd::Receiver));
     }
     match receipt_line(alloc, name, terms, &message, text) {
         Ok(line) => Ok(Reply::Lines(line)),

@@ -1,16 +1,14 @@
 ghost use Rattle.std.specs.Prelude.{◌≡◌, false, IfOk};
 ghost use Rattle.satp_app.specs.Check.{check_says, line, signed_says};
-ghost use Rattle.satp_app.specs.Outside.{sink, source, streams};
-ghost use Rattle.satp_app.specs.Streams.{StreamRule};
-ghost use Rattle.satp_app.specs.Texts.{text_form};
+ghost use Rattle.satp_outcome.specs.Outside.{sink, source, streams};
+ghost use Rattle.satp_outcome.specs.Streams.{StreamRule};
+ghost use Rattle.satp_outcome.specs.Texts.{text_form};
 
-use crate::outcome::{Outcome, Refusal};
-use crate::reply::Reply;
-use crate::streams::{LONGEST_INPUT, conclude, read_to, text_on};
 use itoa::Buffer;
 use satp_base::{Kind, Memory, Sink, Source, Text};
 use satp_canon::{CanonFault, read};
 use satp_jws::{JwsFault, Key, verify};
+use satp_outcome::{InputEnd, LONGEST_INPUT, Outcome, Reply, conclude, read_to, text_on};
 use std::alloc::Global;
 
 /// Reads a canonical text and prints its kind and length.
@@ -25,7 +23,7 @@ pub(crate) fn check<I: Source, K: Sink>(alloc: Global, input: &mut I, out: &mut 
     match read_to(alloc, input, LONGEST_INPUT) {
         Ok(held) => match text_on(held.bytes()) {
             Some(text) => conclude(out, text_reply(alloc, text)),
-            None => Outcome::InputLong,
+            None => Outcome::Input(InputEnd::Long),
         },
         Err(outcome) => outcome,
     }
@@ -48,7 +46,7 @@ pub(crate) fn check_signed<I: Source, K: Sink>(
     match read_to(alloc, input, LONGEST_INPUT) {
         Ok(held) => match text_on(held.bytes()) {
             Some(text) => conclude(out, signed_reply(alloc, key, text)),
-            None => Outcome::InputLong,
+            None => Outcome::Input(InputEnd::Long),
         },
         Err(outcome) => outcome,
     }
@@ -61,7 +59,7 @@ fn text_reply(alloc: Global, text: &[u8]) -> Result<Reply, Memory>
     let message = match read(alloc, text) {
         Ok(message) => message,
         Err(CanonFault::Memory) => return Err(Memory),
-        Err(fault) => return Ok(Reply::Refuses(Refusal::Text(fault))),
+        Err(fault) => return Ok(Reply::Refuses(InputEnd::Text(fault))),
     };
     match text_line(alloc, b"text ", message.body.kind(), text.len()) {
         Ok(line) => Ok(Reply::Lines(line)),
@@ -76,12 +74,12 @@ fn signed_reply(alloc: Global, key: &Key, text: &[u8]) -> Result<Reply, Memory>
     let verified = match verify(alloc, key, text) {
         Ok(verified) => verified,
         Err(JwsFault::Memory) => return Err(Memory),
-        Err(fault) => return Ok(Reply::Refuses(Refusal::Signature(fault))),
+        Err(fault) => return Ok(Reply::Refuses(InputEnd::Signature(fault))),
     };
     let message = match read(alloc, verified.payload.bytes()) {
         Ok(message) => message,
         Err(CanonFault::Memory) => return Err(Memory),
-        Err(fault) => return Ok(Reply::Refuses(Refusal::Text(fault))),
+        Err(fault) => return Ok(Reply::Refuses(InputEnd::Text(fault))),
     };
     match text_line(alloc, b"jws ", message.body.kind(), text.len()) {
         Ok(line) => Ok(Reply::Lines(line)),

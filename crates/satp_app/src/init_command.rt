@@ -1,14 +1,12 @@
 ghost use Rattle.std.specs.Prelude.{◌≡◌, ◌≢◌, ◌≤◌, false, length, MatchResult};
 ghost use Rattle.satp_app.specs.Init.{InitRule, NotRead, Reads, IsGenesisText, order, set_up_outcome};
-ghost use Rattle.satp_app.specs.Outside.{outside, sink, site_state, source, streams};
+ghost use Rattle.satp_outcome.specs.Outside.{WireState, outside, sink, site_state, source, streams};
 
-use crate::outcome::Outcome;
-use crate::report::say_both;
-use crate::streams::read_to;
 use satp_base::{
     DiskFault, Genesis, GenesisFault, LedgerKind, Name, Sink, SinkFault, Site, Source, Text,
 };
 use satp_gateway::{SetUpFault, Vacancy};
+use satp_outcome::{InputEnd, Outcome, PlaceEnd, read_to, say_both};
 use satp_records::Setup;
 use std::alloc::Global;
 
@@ -27,14 +25,14 @@ pub(crate) fn init<S: Site, I: Source, K: Sink>(
     requires peer { setup.now.name ≢ setup.now.peer }
     requires over { I.is_over input.old ≡ false }
     requires failed { K.has_failed out.old ≡ false }
-    ensures { InitRule (order dir.now setup.now kind)
-        (outside (streams (source I.faults I.left I.is_over input.old) (sink K.faults K.taken K.has_failed out.old)) (site_state S.faults S.told S.book site.old))
-        (outside (streams (source I.faults I.left I.is_over input.new) (sink K.faults K.taken K.has_failed out.new)) (site_state S.faults S.told S.book site.new))
+    ensures { (wire : WireState) → InitRule (order dir.now setup.now kind)
+        (outside (streams (source I.faults I.left I.is_over input.old) (sink K.faults K.taken K.has_failed out.old)) (site_state S.faults S.told S.book site.old) wire)
+        (outside (streams (source I.faults I.left I.is_over input.new) (sink K.faults K.taken K.has_failed out.new)) (site_state S.faults S.told S.book site.new) wire)
         result }
 {
     match site.enter(dir.bytes()) {
         Ok(()) => {}
-        Err(DiskFault) => return Outcome::SiteFailed,
+        Err(DiskFault) => return Outcome::Place(PlaceEnd::Site),
     }
     let vacancy = match Vacancy::open(alloc, site) {
         Ok(vacancy) => vacancy,
@@ -66,12 +64,12 @@ fn read_genesis<I: Source>(alloc: Global, input: &mut I) -> Result<Genesis, Outc
         Err(outcome) => return Err(outcome),
     };
     if held.bytes().len() > Genesis::BYTES {
-        return Err(Outcome::InputLong);
+        return Err(Outcome::Input(InputEnd::Long));
     }
     match Genesis::read(alloc, held.bytes()) {
         Ok(genesis) => Ok(genesis),
         Err(GenesisFault::Long { .. }) => unreachable!(),
-        Err(GenesisFault::Line { number }) => Err(Outcome::GenesisRefused { number }),
+        Err(GenesisFault::Line { number }) => Err(Outcome::Input(InputEnd::GenesisLine { number })),
         Err(GenesisFault::Memory) => Err(Outcome::Memory),
     }
 }
@@ -80,9 +78,9 @@ fn not_set_up(fault: SetUpFault) -> Outcome
     ensures { result ≡ set_up_outcome fault }
 {
     match fault {
-        SetUpFault::Already => Outcome::GatewayThere,
-        SetUpFault::Damaged { at } => Outcome::JournalDamaged { at },
-        SetUpFault::Site => Outcome::SiteFailed,
+        SetUpFault::Already => Outcome::Place(PlaceEnd::GatewayThere),
+        SetUpFault::Damaged { at } => Outcome::Place(PlaceEnd::JournalDamaged { at }),
+        SetUpFault::Site => Outcome::Place(PlaceEnd::Site),
         SetUpFault::Memory => Outcome::Memory,
     }
 }

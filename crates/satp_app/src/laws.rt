@@ -1,9 +1,10 @@
 // Laws of how commands end.
-ghost use Rattle.satp_app.specs.OneEnd.{OneAnswer, OneCheck, OneSignedCheck};
+ghost use Rattle.satp_app.specs.OneEnd.{OneAnswer, OneCheck, OneInit, OneSignedCheck};
 
-/// Where the input is told, its count of faults doesn't stand at its end and memory sufficed, a command that reads a text ends in one way. The law makes no call.
+/// Where the input is told, for `init` the site too, no count of faults stands at its end and memory sufficed, a command that reads its input ends in one way. The law makes no call.
 pub fn law_one_end()
     ensures answer { OneAnswer }
     ensures check { OneCheck }
     ensures signed { OneSignedCheck }
+    ensures init { OneInit }
 {}

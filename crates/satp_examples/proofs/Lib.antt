@@ -3,3 +3,4 @@ pub mod Books
 pub mod KeptJournals
 pub mod Mends
 pub mod Proposals
+pub mod NoWords

@@ -7,7 +7,7 @@ use Rattle.satp_base.specs.Forms.{IsMessage}
 use Rattle.satp_base.specs.declared.message.Message.{Message}
 use Rattle.satp_base.proofs.ChainLemmas.{zero_formed}
 use Rattle.satp_base.proofs.OneText.{one_text}
-use Rattle.satp_app.specs.Texts.{IsOnly}
+use Rattle.satp_outcome.specs.Texts.{IsOnly}
 use Rattle.satp_examples.specs.Messages.{proposal_text}
 use Rattle.satp_examples.specs.Replies.{commence, proposal}
 

@@ -1,5 +1,5 @@
 -- How `init` ends: the gateway alpha, with a ledger of gold, is to be set up in the directory `d`.
-use Rattle.std.specs.Prelude.{ℕ, List, [], ◌∷◌, codes, replicate, Option, Some, None}
+use Rattle.std.specs.Prelude.{ℕ, false, List, [], ◌∷◌, codes, replicate, Option, Some, None}
 use Rattle.satp_base.specs.Acts.{founded}
 use Rattle.satp_base.specs.Calls.{Told, enter_failed, entered, made}
 use Rattle.satp_base.specs.Founding.{Founding}
@@ -10,10 +10,11 @@ use Rattle.satp_base.specs.declared.area.Event.TheVariants.{Wrote}
 use Rattle.satp_base.specs.declared.ledger.LedgerKind.TheVariants.{Accounts}
 use Rattle.satp_gateway.specs.SettingUp.{Plan, founds, plan}
 use Rattle.satp_app.specs.Init.{InitRule, Order, order, setup_of}
-use Rattle.satp_app.specs.Outside.{OutsideState, SinkState, SiteState, SourceState}
-use Rattle.satp_app.specs.declared.outcome.Outcome.{Outcome}
-use Rattle.satp_app.specs.declared.outcome.Outcome.TheVariants.{Done, InputFailed, Refused, GenesisRefused, SiteFailed, JournalDamaged, GatewayThere}
-use Rattle.satp_app.specs.declared.outcome.Refusal.TheVariants.{Receiver}
+use Rattle.satp_outcome.specs.Outside.{OutsideState, SinkState, SiteState, SourceState, WireState}
+use Rattle.satp_outcome.specs.declared.outcome.Outcome.{Outcome}
+use Rattle.satp_outcome.specs.declared.outcome.Outcome.TheVariants.{Done, InputFailed, Input, Place}
+use Rattle.satp_outcome.specs.declared.outcome.PlaceEnd.TheVariants.{GatewayThere, JournalDamaged, Site}
+use Rattle.satp_outcome.specs.declared.outcome.InputEnd.TheVariants.{GenesisLine, Receiver}
 use Rattle.satp_examples.specs.Appending.{closed, damaged, uncalled}
 use Rattle.satp_examples.specs.Commands.{input, out, over}
 use Rattle.satp_examples.specs.Genesis.{gold_1000}
@@ -38,8 +39,12 @@ open_text = codes "gold"
 abbrev pub site : ℕ → Told → Option Book → SiteState
 site faults told book = record { faults = faults; told = Some told; book = book }
 
+-- no call was made on it
+abbrev pub closed_wire : WireState
+closed_wire = record { faults = 0; told = Some (record { conversations = []; dials = [] }); listens = false; is_open = false }
+
 abbrev pub around : SiteState → SourceState → SinkState → OutsideState
-around s i o = record { streams = record { input = i; out = o }; site = s }
+around s i o = record { streams = record { input = i; out = o }; site = s; wire = closed_wire }
 
 -- no call was made on areas with these bytes, this text is on the input, and nothing is printed
 abbrev pub before : List ℕ → List ℕ → OutsideState
@@ -86,22 +91,22 @@ gold = Some (founded gold_alone)
 
 pub record EndsOfInit : Type 0 where
   pub done : Ends (before [] genesis_text) (around (site 0 set_up gold) (over 0 []) (out 0 (codes "alpha ready\n"))) Done
-  pub there_already : Ends (before closed genesis_text) (around (site 0 there None) (input 0 genesis_text) (out 0 [])) GatewayThere
-  pub damaged_journal : Ends (before damaged genesis_text) (around (site 0 found_damaged None) (input 0 genesis_text) (out 0 [])) (JournalDamaged 6)
-  pub no_directory : Ends (before [] genesis_text) (around (site 1 (enter_failed (codes "d") (uncalled [])) None) (input 0 genesis_text) (out 0 [])) SiteFailed
-  pub a_line_refused : Ends (before [] open_text) (around (site 0 vacant None) (over 0 []) (out 0 [])) (GenesisRefused 1)
+  pub there_already : Ends (before closed genesis_text) (around (site 0 there None) (input 0 genesis_text) (out 0 [])) (Place GatewayThere)
+  pub damaged_journal : Ends (before damaged genesis_text) (around (site 0 found_damaged None) (input 0 genesis_text) (out 0 [])) (Place (JournalDamaged 6))
+  pub no_directory : Ends (before [] genesis_text) (around (site 1 (enter_failed (codes "d") (uncalled [])) None) (input 0 genesis_text) (out 0 [])) (Place Site)
+  pub a_line_refused : Ends (before [] open_text) (around (site 0 vacant None) (over 0 []) (out 0 [])) (Input (GenesisLine 1))
   pub input_failed : Ends (before [] genesis_text) (around (site 0 vacant None) (over 1 genesis_text) (out 0 [])) InputFailed
   pub not_done_without_its_line : ¬ Ends (before [] genesis_text) (around (site 0 set_up gold) (over 0 []) (out 0 [])) Done
   pub not_done_without_its_ledger : ¬ Ends (before [] genesis_text) (around (site 0 set_up None) (over 0 []) (out 0 (codes "alpha ready\n"))) Done
   pub not_done_with_a_fault_of_the_site : ¬ Ends (before [] genesis_text) (around (site 1 set_up gold) (over 0 []) (out 0 (codes "alpha ready\n"))) Done
   -- the input isn't read where a record is there
-  pub not_there_with_the_input_read : ¬ Ends (before closed genesis_text) (around (site 0 there None) (over 0 []) (out 0 [])) GatewayThere
-  pub not_there_where_it_is_empty : ¬ Ends (before [] genesis_text) (around (site 0 vacant None) (input 0 genesis_text) (out 0 [])) GatewayThere
+  pub not_there_with_the_input_read : ¬ Ends (before closed genesis_text) (around (site 0 there None) (over 0 []) (out 0 [])) (Place GatewayThere)
+  pub not_there_where_it_is_empty : ¬ Ends (before [] genesis_text) (around (site 0 vacant None) (input 0 genesis_text) (out 0 [])) (Place GatewayThere)
   -- the directory is entered before the first call on its journal, and not in vain
-  pub not_there_opened_outside : ¬ Ends (before closed genesis_text) (around (site 0 opened_outside None) (input 0 genesis_text) (out 0 [])) GatewayThere
-  pub not_there_opened_in_vain : ¬ Ends (before closed genesis_text) (around (site 0 opened_in_vain None) (input 0 genesis_text) (out 0 [])) GatewayThere
-  pub not_failed_without_a_fault : ¬ Ends (before [] genesis_text) (around (site 0 (enter_failed (codes "d") (uncalled [])) None) (input 0 genesis_text) (out 0 [])) SiteFailed
+  pub not_there_opened_outside : ¬ Ends (before closed genesis_text) (around (site 0 opened_outside None) (input 0 genesis_text) (out 0 [])) (Place GatewayThere)
+  pub not_there_opened_in_vain : ¬ Ends (before closed genesis_text) (around (site 0 opened_in_vain None) (input 0 genesis_text) (out 0 [])) (Place GatewayThere)
+  pub not_failed_without_a_fault : ¬ Ends (before [] genesis_text) (around (site 0 (enter_failed (codes "d") (uncalled [])) None) (input 0 genesis_text) (out 0 [])) (Place Site)
   -- the journal is looked at before the input
-  pub not_refused_where_a_record_is : ¬ Ends (before closed open_text) (around (site 0 there None) (over 0 []) (out 0 [])) (GenesisRefused 1)
-  pub not_refused_at_a_good_line : ¬ Ends (before [] genesis_text) (around (site 0 vacant None) (over 0 []) (out 0 [])) (GenesisRefused 1)
-  pub no_receiver_is_asked : ¬ Ends (before [] genesis_text) (around (site 0 vacant None) (over 0 []) (out 0 [])) (Refused Receiver)
+  pub not_refused_where_a_record_is : ¬ Ends (before closed open_text) (around (site 0 there None) (over 0 []) (out 0 [])) (Input (GenesisLine 1))
+  pub not_refused_at_a_good_line : ¬ Ends (before [] genesis_text) (around (site 0 vacant None) (over 0 []) (out 0 [])) (Input (GenesisLine 1))
+  pub no_receiver_is_asked : ¬ Ends (before [] genesis_text) (around (site 0 vacant None) (over 0 []) (out 0 [])) (Input Receiver)

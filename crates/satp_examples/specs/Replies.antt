@@ -13,9 +13,9 @@ use Rattle.satp_jws.specs.Faults.{header_fault, payload_of}
 use Rattle.satp_jws.specs.declared.fault.JwsFault.{JwsFault}
 use Rattle.satp_app.specs.Answer.{answer_says, answer_to}
 use Rattle.satp_app.specs.Check.{check_says, line, signed_says}
-use Rattle.satp_app.specs.declared.outcome.Refusal.TheVariants.{Text, Signature, Kind as OtherKind, Receiver}
-use Rattle.satp_app.specs.declared.reply.Reply.{Reply}
-use Rattle.satp_app.specs.declared.reply.Reply.TheVariants.{Lines, Refuses}
+use Rattle.satp_outcome.specs.declared.outcome.InputEnd.TheVariants.{Text, Signature, Kind as OtherKind, Receiver}
+use Rattle.satp_outcome.specs.declared.reply.Reply.{Reply}
+use Rattle.satp_outcome.specs.declared.reply.Reply.TheVariants.{Lines, Refuses}
 use Rattle.satp_examples.specs.Messages.{from_alpha, proposal_text}
 use Rattle.satp_examples.specs.Samples.{alpha, beta, quarter}
 

@@ -3,13 +3,13 @@ use Rattle.std.specs.Prelude.{ℕ, List, [], ◌∷◌, ◌++◌, codes, length,
 use Rattle.satp_base.specs.declared.message.Kind.TheVariants.{TransferProposal}
 use Rattle.satp_app.specs.Check.{line}
 use Rattle.satp_app.specs.Commands.{CommandRule, RunRule}
-use Rattle.satp_app.specs.Outside.{OutsideState, SinkState, SiteState}
-use Rattle.satp_app.specs.declared.outcome.Outcome.TheVariants.{Done, WordsRefused}
+use Rattle.satp_outcome.specs.Outside.{OutsideState, SinkState, SiteState}
+use Rattle.satp_outcome.specs.declared.outcome.Outcome.TheVariants.{Done, WordsRefused}
 use Rattle.satp_words.specs.declared.command.Command.{Command}
 use Rattle.satp_words.specs.declared.command.Command.TheVariants.{Answer, Check}
 use Rattle.satp_examples.specs.Appending.{uncalled}
 use Rattle.satp_examples.specs.Commands.{failed, input, out, over}
-use Rattle.satp_examples.specs.Inits.{around, before, inside, site}
+use Rattle.satp_examples.specs.Inits.{around, before, closed_wire, inside, site}
 use Rattle.satp_examples.specs.Messages.{proposal_text}
 use Rattle.satp_examples.specs.Replies.{receipt}
 use Rattle.satp_examples.specs.Samples.{beta}
@@ -42,6 +42,7 @@ pub record WorkOfCommands : Type 0 where
   pub not_answered_by_a_check : ¬ Does (Check None) receipt_line untouched
   pub not_with_a_call_on_the_site : ¬ Does (Answer beta) receipt_line (site 0 (inside []) None)
   pub not_with_a_fault_of_the_site : ¬ Does (Check None) checked_line (site 1 (uncalled []) None)
+  pub not_with_a_call_on_the_wire : ¬ CommandRule (Answer beta) start (record (printed receipt_line untouched) { wire = record closed_wire { faults = 1 } }) Done
   -- the end of the input was looked for
   pub not_with_an_input_that_goes_on : ¬ CommandRule (Answer beta) start (around untouched (input 0 []) (out 0 receipt_line)) Done
   pub no_words_are_refused : (command : Command) (a : OutsideState) → ¬ CommandRule command start a WordsRefused

@@ -6,7 +6,7 @@ use satp_accounts::Accounts;
 use satp_app::run;
 use satp_base::{Area, Disk, Genesis, LedgerCore, LedgerKind, Memory, Name, Text, Texts};
 use satp_gateway::{Gateway, SetUpFault};
-use satp_memory::{MemSink, MemSite, MemSource};
+use satp_memory::{MemSink, MemSite, MemSource, MemWire};
 use satp_records::{Stored, decode};
 use std::alloc::Global;
 
@@ -131,25 +131,30 @@ fn push_word(alloc: Global, words: &mut Texts, word: &str) -> Result<(), Memory>
 
 fn run_init(alloc: Global, site: &mut MemSite<Accounts>, kind: LedgerKind) -> Result<End, Memory> {
     let words = init_words(alloc, kind)?;
+    let mut wire = MemWire::new(alloc, b"")?;
     let mut input = MemSource::new(alloc, GENESIS)?;
     let mut out = MemSink::new(alloc)?;
     let mut err = MemSink::new(alloc)?;
-    Ok(run_over(alloc, &words, site, &mut input, &mut out, &mut err))
+    Ok(run_over(
+        alloc, &words, site, &mut wire, &mut input, &mut out, &mut err,
+    ))
 }
 
 fn run_over(
     alloc: Global,
     words: &Texts,
     site: &mut MemSite<Accounts>,
+    wire: &mut MemWire,
     input: &mut MemSource,
     out: &mut MemSink,
     err: &mut MemSink,
 ) -> End
+    requires closed { wire.old.is_open ≡ false }
     requires over { input.old.over ≡ false }
     requires out_failed { out.old.failed ≡ false }
     requires err_failed { err.old.failed ≡ false }
 {
-    let status = run(alloc, words, site, input, out, err);
+    let status = run(alloc, words, site, wire, input, out, err);
     end_of(status, out.bytes(), err.bytes())
 }
 

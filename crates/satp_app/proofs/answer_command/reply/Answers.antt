@@ -1,5 +1,5 @@
-use Rattle.std.proofs.Common.{◌≡◌, ◌∙◌, sym}
-use Rattle.satp_app.proofs.Inputs.{ne_false, ne_true, only_of}
+use Rattle.std.proofs.Common.{◌∙◌, sym}
+use Rattle.satp_outcome.proofs.Inputs.{ne_false, ne_true, only_of}
 use Rattle.satp_app.proofs.answer_command.reply.Goals as goal
 
 pub returns-in_default : goal.returns-in_default

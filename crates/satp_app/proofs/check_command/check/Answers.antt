@@ -1,16 +1,16 @@
-use Rattle.std.proofs.Common.{◌≡◌, ◌∙◌, ◌<◌, ℕ, List, length, ap, subst, refl}
+use Rattle.std.proofs.Common.{◌∙◌, ◌<◌, ℕ, List, length, ap, subst, refl}
 use Rattle.satp_app.specs.Check.{check_says}
-use Rattle.satp_app.specs.Outside.{sink, source, streams}
-use Rattle.satp_app.specs.Texts.{text_form, without_newline}
-use Rattle.satp_app.proofs.Ends.{replied, too_long}
-use Rattle.satp_app.proofs.Inputs.{text_whole}
+use Rattle.satp_outcome.specs.Outside.{sink, source, streams}
+use Rattle.satp_outcome.specs.Texts.{text_form, without_newline}
+use Rattle.satp_outcome.proofs.Ends.{replied, too_long}
+use Rattle.satp_outcome.proofs.Inputs.{text_whole}
 use Rattle.satp_app.proofs.check_command.check.Goals as goal
 
 pub returns-in-Some : goal.returns-in-Some
 returns-in-Some g c =
     let before = streams (source g.I.Source.faults g.I.Source.left g.I.Source.is_over c.args.input.now) (sink g.K.Sink.faults g.K.Sink.taken g.K.Sink.has_failed c.args.out.now) in
     let after = streams (source g.I.Source.faults g.I.Source.left g.I.Source.is_over c.read_to.new.input) (sink g.K.Sink.faults g.K.Sink.taken g.K.Sink.has_failed c.conclude.new.out) in
-    replied text_form check_says text_whole before after c.in-Ok.held c.in-Ok.ensures.0 c.in-Ok.ensures.1 c.in-Some.text.now (c.in-Some.ensures.0 ∙ ap without_newline c.bytes.ensures) c.in-Some.ensures.1 c.text_reply.result c.conclude.result c.text_reply.ensures c.conclude.ensures
+    replied text_form check_says text_whole before after c.in-Ok.held c.in-Ok.ensures.0 c.in-Ok.ensures.1 (λ text bad. bad) c.in-Some.text.now (c.in-Some.ensures.0 ∙ ap without_newline c.bytes.ensures) c.in-Some.ensures.1 c.text_reply.result c.conclude.result c.text_reply.ensures c.conclude.ensures
 
 pub returns-in-Ok : goal.returns-in-Ok
 returns-in-Ok g c =

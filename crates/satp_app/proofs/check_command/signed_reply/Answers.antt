@@ -1,8 +1,8 @@
-use Rattle.std.proofs.Common.{◌≡◌, ◌∙◌, ap, sym, codes, length}
+use Rattle.std.proofs.Common.{◌∙◌, ap, sym, codes, length}
 use Rattle.satp_base.specs.Signatures.{jws}
 use Rattle.satp_base.specs.declared.message.Kind.{Kind}
 use Rattle.satp_app.specs.Check.{line}
-use Rattle.satp_app.proofs.Inputs.{only_of}
+use Rattle.satp_outcome.proofs.Inputs.{only_of}
 use Rattle.satp_app.proofs.check_command.signed_reply.Goals as goal
 
 pub returns-in-Ok-text_line : goal.returns-in-Ok-text_line

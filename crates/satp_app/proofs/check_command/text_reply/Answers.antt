@@ -1,7 +1,7 @@
-use Rattle.std.proofs.Common.{◌≡◌, ◌∙◌, ap, codes, length}
+use Rattle.std.proofs.Common.{◌∙◌, ap, codes, length}
 use Rattle.satp_base.specs.declared.message.Kind.{Kind}
 use Rattle.satp_app.specs.Check.{line}
-use Rattle.satp_app.proofs.Inputs.{only_of}
+use Rattle.satp_outcome.proofs.Inputs.{only_of}
 use Rattle.satp_app.proofs.check_command.text_reply.Goals as goal
 
 pub returns-in-Ok-text_line : goal.returns-in-Ok-text_line

@@ -1,6 +1,6 @@
 use Rattle.std.proofs.Common.{◌<◌, ◌≤◌, List, ℕ, length, subst}
 use Rattle.satp_app.specs.Init.{IsGenesisText, IsRefusedAt}
-use Rattle.satp_app.specs.Outside.{source}
+use Rattle.satp_outcome.specs.Outside.{source}
 use Rattle.satp_app.proofs.Genesis.{reads_long, reads_short, refused_at}
 use Rattle.satp_app.proofs.init_command.read_genesis.Goals as goal
 

@@ -1,7 +1,8 @@
 use Rattle.satp_app.specs.Answer.{answer_says}
 use Rattle.satp_app.specs.Check.{check_says, signed_says}
-use Rattle.satp_app.specs.Texts.{text_form}
+use Rattle.satp_outcome.specs.Texts.{text_form}
 use Rattle.satp_app.proofs.OneEnd.{one_end}
+use Rattle.satp_app.proofs.OneInit.{one_init}
 use Rattle.satp_app.proofs.OneReply.{one_answer, one_check}
 use Rattle.satp_app.proofs.laws.law_one_end.Goals as goal
 
@@ -13,3 +14,6 @@ returns-clause-check c = one_end text_form check_says one_check
 
 pub returns-clause-signed : goal.returns-clause-signed
 returns-clause-signed c = λ key one. one_end text_form (signed_says key) one
+
+pub returns-clause-init : goal.returns-clause-init
+returns-clause-init c = one_init

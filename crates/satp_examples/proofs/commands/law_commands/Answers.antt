@@ -1,8 +1,8 @@
 use Rattle.std.proofs.Common.{◌≡◌, ◌≤◌, ◌<◌, ℕ, zero, suc, List, [], ◌∷◌, length, take, Some, refl, ap, subst, inl, inr, arith, lit≤, lit<}
 use Rattle.std.specs.Fmt.{digits}
-use Rattle.satp_app.specs.Texts.{without_newline}
-use Rattle.satp_app.specs.declared.outcome.Outcome.TheVariants as outcome
-use Rattle.satp_app.specs.declared.reply.Reply.TheVariants.{Lines}
+use Rattle.satp_outcome.specs.Texts.{without_newline}
+use Rattle.satp_outcome.specs.declared.outcome.Outcome.TheVariants as outcome
+use Rattle.satp_outcome.specs.declared.reply.Reply.TheVariants.{Lines}
 use Rattle.satp_examples.specs.Commands.{Ends, ab, failed, input, out, over}
 use Rattle.satp_examples.proofs.commands.law_commands.Goals as goal
 
@@ -60,5 +60,20 @@ returns-clause-lines c = record {
   done = (refl, refl);
   not_the_receiver = (refl, refl);
   a_line_of_a_genesis = (refl, refl);
+  a_line_of_a_schedule = (refl, refl);
+  a_text_refused = (refl, refl);
+  a_signature_refused = (refl, refl);
+  an_empty_log = (refl, refl);
+  a_record_of_a_log = (refl, refl);
   damage = (refl, refl);
+  a_record = (refl, refl);
+  no_gateway = (refl, refl);
+  no_session = (refl, refl);
+  a_session_there = (refl, refl);
+  full = (refl, refl);
+  too_late = (refl, refl);
+  rolled_back = (refl, refl);
+  no_wire = (refl, refl);
+  a_code = (refl, refl);
+  an_answer_refused = (refl, refl);
 }

@@ -15,10 +15,11 @@ use Rattle.satp_gateway.specs.declared.fault.SetUpFault.TheVariants.{Already, Da
 use Rattle.satp_gateway.proofs.Deciding.{opens_stands}
 use Rattle.satp_app.specs.Init.{InitEnds, IsGenesisText, IsReady, SetsUp, set_up_outcome}
 use Rattle.satp_app.specs.Init.InitEnds.{is_set_up, not_read, not_ready, not_set_up}
-use Rattle.satp_app.specs.Outside.{OutsideState, StreamsState}
-use Rattle.satp_app.specs.declared.outcome.Outcome.{Outcome}
-use Rattle.satp_app.specs.declared.outcome.Outcome.TheVariants.{Done, GenesisRefused, GatewayThere, Refused}
-use Rattle.satp_app.specs.declared.outcome.Refusal.TheVariants.{Receiver}
+use Rattle.satp_outcome.specs.Outside.{OutsideState, StreamsState}
+use Rattle.satp_outcome.specs.declared.outcome.Outcome.{Outcome}
+use Rattle.satp_outcome.specs.declared.outcome.Outcome.TheVariants.{Done, Input, Place}
+use Rattle.satp_outcome.specs.declared.outcome.InputEnd.TheVariants.{GenesisLine, Receiver}
+use Rattle.satp_outcome.specs.declared.outcome.PlaceEnd.TheVariants.{GatewayThere}
 use Rattle.satp_examples.specs.Appending.{closed, damaged, uncalled}
 use Rattle.satp_examples.specs.Appending.{opened as journal}
 use Rattle.satp_examples.specs.Commands.{input, out, over}
@@ -111,13 +112,13 @@ of_done (Damaged at) e = absurd cc
 of_done Site e = absurd cc
 of_done NoMemory e = absurd cc
 
-of_refused : (number : ℕ) (fault : SetUpFault) → GenesisRefused number ≡ set_up_outcome fault → ⊥
+of_refused : (number : ℕ) (fault : SetUpFault) → Input (GenesisLine number) ≡ set_up_outcome fault → ⊥
 of_refused number Already e = absurd cc
 of_refused number (Damaged at) e = absurd cc
 of_refused number Site e = absurd cc
 of_refused number NoMemory e = absurd cc
 
-of_receiver : (fault : SetUpFault) → Refused Receiver ≡ set_up_outcome fault → ⊥
+of_receiver : (fault : SetUpFault) → Input Receiver ≡ set_up_outcome fault → ⊥
 of_receiver Already e = absurd cc
 of_receiver (Damaged at) e = absurd cc
 of_receiver Site e = absurd cc
@@ -137,21 +138,21 @@ untold (not_read ready bad printed) = bad
 untold (not_set_up bad printed) = bad
 untold (is_set_up (sets, printed)) = let bad = sets.answered.1.0 in absurd cc
 
-read_there : EndsAs closed genesis_text (around (site 0 there None) (over 0 []) (out 0 [])) GatewayThere → ⊥
+read_there : EndsAs closed genesis_text (around (site 0 there None) (over 0 []) (out 0 [])) (Place GatewayThere) → ⊥
 read_there (not_ready same answers) = let bad : Some [] ≡ Some genesis_text = ap (λ (s : StreamsState). s.input.left) same in absurd cc
 read_there (not_read ready bad printed) = bad
 read_there (not_set_up bad printed) = bad
 read_there (is_set_up bad) = bad
 
 -- only a record makes it there
-already_there : (image : List ℕ) (b a : Tells) (fault : SetUpFault) → GatewayThere ≡ set_up_outcome fault → b.told ≡ Some (inside image) → NotVacant fault b a
+already_there : (image : List ℕ) (b a : Tells) (fault : SetUpFault) → Place GatewayThere ≡ set_up_outcome fault → b.told ≡ Some (inside image) → NotVacant fault b a
     → (payloads : List (List ℕ)) × (payloads ≢ []) × Stands image payloads × (dirs_of a.told ≡ dirs_of b.told)
 already_there image b a Already e is ((payloads, has, opens), same) = (payloads, has, reads_list image payloads b.told a.told is opens, opens_dirs payloads b.told a.told opens)
 already_there image b a (Damaged at) e is not = absurd cc
 already_there image b a Site e is not = absurd cc
 already_there image b a NoMemory e is not = absurd cc
 
-empty_there : EndsAs [] genesis_text (around (site 0 vacant None) (input 0 genesis_text) (out 0 [])) GatewayThere → ⊥
+empty_there : EndsAs [] genesis_text (around (site 0 vacant None) (input 0 genesis_text) (out 0 [])) (Place GatewayThere) → ⊥
 empty_there (not_ready same (inl (fails, e))) = absurd cc
 empty_there (not_ready same (inr (within, fault, enters, not, e))) = let r = already_there [] within _ fault e enters.told not in r.1 (one_list [] r.0 [] r.2 empty_stands)
 empty_there (not_read ready bad printed) = bad
@@ -159,7 +160,7 @@ empty_there (not_set_up bad printed) = bad
 empty_there (is_set_up bad) = bad
 
 -- the directory is told as it was entered
-there_as : (told : Told) → EndsAs closed genesis_text (around (site 0 told None) (input 0 genesis_text) (out 0 [])) GatewayThere → dirs_of (Some told) ≡ entry 0 true
+there_as : (told : Told) → EndsAs closed genesis_text (around (site 0 told None) (input 0 genesis_text) (out 0 [])) (Place GatewayThere) → dirs_of (Some told) ≡ entry 0 true
 there_as told (not_ready same (inl (fails, e))) = absurd cc
 there_as told (not_ready same (inr (within, fault, enters, not, e))) = (already_there closed within (tells (Some told) None) fault e enters.told not).3 ∙ ap dirs_of enters.told
 there_as told (not_read ready bad printed) = absurd bad
@@ -180,7 +181,7 @@ opened_late e = let bad : 3 ≡ 0 = ap calls_before e in omega (arith, bad)
 entered_in_vain : entry 0 false ≡ entry 0 true → ⊥
 entered_in_vain e = let bad : false ≡ true = ap succeeded e in absurd cc
 
-refused_there : EndsAs closed open_text (around (site 0 there None) (over 0 []) (out 0 [])) (GenesisRefused 1) → ⊥
+refused_there : EndsAs closed open_text (around (site 0 there None) (over 0 []) (out 0 [])) (Input (GenesisLine 1)) → ⊥
 refused_there (not_ready same (inl (fails, e))) = absurd cc
 refused_there (not_ready same (inr (within, fault, enters, not, e))) = of_refused 1 fault e
 refused_there (not_read ready reads printed) = never_ready _ ready
@@ -195,14 +196,14 @@ first_accepted (l ∷ ls) rest reached whole counted runs refused = omega (arith
 no_refusal : StopsAt AcceptsLine genesis_text nothing 1 → ⊥
 no_refusal s = first_accepted s.lines s.rest s.reached s.whole s.counted s.runs s.refused
 
-good_line : EndsAs [] genesis_text (around (site 0 vacant None) (over 0 []) (out 0 [])) (GenesisRefused 1) → ⊥
+good_line : EndsAs [] genesis_text (around (site 0 vacant None) (over 0 []) (out 0 [])) (Input (GenesisLine 1)) → ⊥
 good_line (not_ready same (inl (fails, e))) = absurd cc
 good_line (not_ready same (inr (within, fault, enters, not, e))) = of_refused 1 fault e
 good_line (not_read ready reads printed) = no_refusal (subst (λ bytes. StopsAt AcceptsLine bytes nothing 1) reads.is_input reads.holds.1)
 good_line (not_set_up bad printed) = bad
 good_line (is_set_up bad) = bad
 
-receiver_asked : EndsAs [] genesis_text (around (site 0 vacant None) (over 0 []) (out 0 [])) (Refused Receiver) → ⊥
+receiver_asked : EndsAs [] genesis_text (around (site 0 vacant None) (over 0 []) (out 0 [])) (Input Receiver) → ⊥
 receiver_asked (not_ready same (inl (fails, e))) = absurd cc
 receiver_asked (not_ready same (inr (within, fault, enters, not, e))) = of_receiver fault e
 receiver_asked (not_read ready bad printed) = bad
@@ -211,27 +212,30 @@ receiver_asked (is_set_up bad) = bad
 
 pub returns : goal.returns
 returns c = record {
-  done = record { ends = is_set_up (sets_up, (refl, refl, refl)); later = lit≤ tt; cause = λ e. absurd cc; kept = λ e. refl };
+  done = record { ends = is_set_up (sets_up, (refl, refl, refl)); wire = refl; later = lit≤ tt; cause = λ e. absurd cc; kept = λ e. refl };
   there_already = record {
     ends = not_ready refl (inr (tells (Some (inside closed)) None, Already, record { told = refl; book = refl }, ((abc ∷ [], some, (journal (abc ∷ []), refl, (closed, (refl, is_whole, refl, refl), refl))), refl), refl));
+    wire = refl;
     later = lit≤ tt;
     cause = λ e. absurd cc;
     kept = λ e. refl;
   };
   damaged_journal = record {
     ends = not_ready refl (inr (tells (Some (inside damaged)) None, Damaged 6, record { told = refl; book = refl }, ((damaged, refl, is_damaged, refl), refl), refl));
+    wire = refl;
     later = lit≤ tt;
     cause = λ e. absurd cc;
     kept = λ e. refl;
   };
-  no_directory = record { ends = not_ready refl (inl (record { told = inl refl; book = refl }, refl)); later = lit≤ tt; cause = λ e. lit≤ tt; kept = λ other. absurd (other refl) };
+  no_directory = record { ends = not_ready refl (inl (record { told = inl refl; book = refl }, refl)); wire = refl; later = lit≤ tt; cause = λ e. lit≤ tt; kept = λ other. absurd (other refl) };
   a_line_refused = record {
     ends = not_read is_ready (record { read = (refl, (refl, refl)); bytes = open_text; is_input = refl; holds = (lit≤ tt, refused_line) }) refl;
+    wire = refl;
     later = lit≤ tt;
     cause = λ e. absurd cc;
     kept = λ e. refl;
   };
-  input_failed = record { ends = not_read is_ready (lit≤ tt, refl, (0, lit≤ tt, refl)) refl; later = lit≤ tt; cause = λ e. absurd cc; kept = λ e. refl };
+  input_failed = record { ends = not_read is_ready (lit≤ tt, refl, (0, lit≤ tt, refl)) refl; wire = refl; later = lit≤ tt; cause = λ e. absurd cc; kept = λ e. refl };
   not_done_without_its_line = λ r. unprinted r.ends;
   not_done_without_its_ledger = λ r. untold r.ends;
   not_done_with_a_fault_of_the_site = λ r. let bad : 1 ≡ 0 = r.kept (λ e. absurd cc) in absurd (omega (arith, bad));

@@ -11,7 +11,7 @@ use Rattle.satp_canon.specs.declared.fault.CanonFault.{CanonFault}
 use Rattle.satp_canon.proofs.ReadFaults.{text_fine}
 use Rattle.satp_app.specs.Answer.{Answers, answer_to, terms_proposed}
 use Rattle.satp_app.specs.Check.{line}
-use Rattle.satp_app.specs.Texts.{IsOnly}
+use Rattle.satp_outcome.specs.Texts.{IsOnly}
 use Rattle.satp_examples.specs.Messages.{proposal_text}
 use Rattle.satp_examples.specs.Replies.{commence, proposal, receipt, too_long}
 use Rattle.satp_examples.specs.Samples.{alpha, beta, quarter}

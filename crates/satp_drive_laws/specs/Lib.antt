@@ -1,0 +1,4 @@
+pub mod Undisturbed
+pub mod Completing
+pub mod Asks
+pub mod Quiet

@@ -23,8 +23,7 @@ trap 'chmod -R u+w "$folder"; rm -rf "$folder"' EXIT
 chmod 755 "$folder"
 install -m 755 crates/satp/out/satp "$folder/satp" || exit 1
 
-python3 - "$folder" <<'PYTHON'
-import base64
+PYTHONPATH=.ci/checks python3 - "$folder" <<'PYTHON'
 import fcntl
 import os
 import random
@@ -33,47 +32,36 @@ import subprocess
 import sys
 import time
 
+import formats
+
 top = sys.argv[1]
 program = os.path.join(top, "satp")
 KEY = bytes(range(32))
-KEY_TEXT = base64.urlsafe_b64encode(KEY).rstrip(b"=").decode()
+KEY_TEXT = formats.encoded(KEY)
 GENESIS = b"asset gold 1000000\nasset tin 9007199254740991\nhold gold ann 1000\nhold gold bob 1\nhold tin ann 7\n"
 NOBODY = 65534
 
 
-# The bytes that the files have to hold, by the tables of records and of the journal.
+# The bytes that the files have to hold.
 
 
-def text(value):
-    return bytes([len(value)]) + value
-
-
-def number(value):
-    return value.to_bytes(8, "big")
-
-
-def journal(payloads):
-    records = b"".join(b"\x01" + len(p).to_bytes(2, "big") + p for p in payloads)
-    return records + b"\x00"
-
-
-SETUP = journal([b"\x00" + text(b"alpha") + text(b"beta") + text(b"127.0.0.1:7002") + text(KEY)])
+SETUP = formats.journal([formats.setup_record("alpha", "beta", "127.0.0.1:7002", KEY)])
 
 
 def ledger(kind):
-    return journal(
+    return formats.journal(
         [
-            b"\x10" + kind,
-            b"\x11" + text(b"gold") + number(1000000),
-            b"\x11" + text(b"tin") + number(9007199254740991),
-            b"\x12" + text(b"gold") + text(b"ann") + number(1000),
-            b"\x12" + text(b"gold") + text(b"bob") + number(1),
-            b"\x12" + text(b"tin") + text(b"ann") + number(7),
+            formats.ledger_record(kind),
+            formats.asset_record("gold", 1000000),
+            formats.asset_record("tin", 9007199254740991),
+            formats.hold_record("gold", "ann", 1000),
+            formats.hold_record("gold", "bob", 1),
+            formats.hold_record("tin", "ann", 7),
         ]
     )
 
 
-LEDGERS = {"accounts": ledger(b"\x01"), "outputs": ledger(b"\x02")}
+LEDGERS = {kind: ledger(kind) for kind in formats.LEDGERS}
 
 
 # The program.

@@ -1,12 +1,11 @@
 """Compares the driver's `sign` and `verify` with Python's hmac, and with joserfc where it can be imported."""
 
-import base64
-import hashlib
-import hmac
 import os
 import random
 import subprocess
 import sys
+
+from formats import decoded, encoded, signed
 
 try:
     from joserfc import jws as joserfc_jws
@@ -34,19 +33,6 @@ REFUSED_HEADERS = [
 ]
 
 
-def encoded(data):
-    return base64.urlsafe_b64encode(data).rstrip(b"=").decode()
-
-
-def decoded(text):
-    return base64.urlsafe_b64decode(text + "=" * (-len(text) % 4))
-
-
-def signed(key, header, payload):
-    text = f"{encoded(header)}.{encoded(payload)}"
-    return f"{text}.{encoded(hmac.new(key, text.encode(), hashlib.sha256).digest())}"
-
-
 def build():
     """Makes the driver, where the gate hasn't made it just before."""
     if not os.access(PROGRAM, os.X_OK):
@@ -71,7 +57,7 @@ def drive(mode, lines):
 
 def tampered(draw, key, payload):
     """Texts that are no JWS of the payload under the key."""
-    text = signed(key, HEADERS[0], payload)
+    text = signed(key, payload, HEADERS[0])
     header, body, signature = text.split(".")
     place = draw.randrange(32)
     changed = bytearray(decoded(signature))
@@ -84,8 +70,8 @@ def tampered(draw, key, payload):
         f"{header}.{body}.{encoded(bytes(changed))}",
         f"{header}.{encoded(payload + b'x')}.{signature}",
         f"{encoded(HEADERS[1])}.{body}.{signature}",
-        signed(bytes(other_key), HEADERS[0], payload),
-        signed(key, draw.choice(REFUSED_HEADERS), payload),
+        signed(bytes(other_key), payload, HEADERS[0]),
+        signed(key, payload, draw.choice(REFUSED_HEADERS)),
         f"{header}.{body}.{signature[:-1]}{trailing}",
         f"{text}=",
         f"{header}.{body}.",
@@ -111,12 +97,12 @@ def main():
 
     ours = drive("sign", [f"{encoded(key)} {encoded(payload)}" for key, payload in cases])
     for (key, payload), text in zip(cases, ours):
-        check(text == signed(key, HEADERS[0], payload), f"signed otherwise: {text}")
+        check(text == signed(key, payload, HEADERS[0]), f"signed otherwise: {text}")
 
     accepted, refused = [], []
     for key, payload in cases:
         for header in HEADERS:
-            accepted.append((key, payload, signed(key, header, payload)))
+            accepted.append((key, payload, signed(key, payload, header)))
         refused += [(key, text) for text in tampered(draw, key, payload)]
     answers = drive("verify", [f"{encoded(key)} {text}" for key, _, text in accepted])
     for (_, payload, text), answer in zip(accepted, answers):

@@ -4,53 +4,21 @@ What no proof excludes is a body that gives up for want of memory at all values 
 values here are many: both ends of each range, and what lies between.
 """
 
-import base64
-import hashlib
-import hmac
 import json
 import os
 import random
 import subprocess
 import sys
 
+from formats import CHAIN, NO_LINK, canonical, encoded, link, signed
+
 DRIVER = "crates/satp_driver/out/satp_driver"
 PROGRAM = "crates/satp/out/satp"
-CHAIN = [
-    "transfer-proposal",
-    "proposal-receipt",
-    "transfer-commence",
-    "commence-ack",
-    "lock-assert",
-    "lock-receipt",
-    "commit-prepare",
-    "commit-ready",
-    "commit-final",
-    "commit-final-ack",
-    "transfer-complete",
-]
 REASONS = ["unknown-asset", "mint-capped", "aborted", "ledger-taken"]
 NAME_BYTES = "abcdefghijklmnopqrstuvwxyz0123456789-"
 ENTRY_BYTES = "ABCDEFGHIJKLMNOPQRSTUVWXYZabcdefghijklmnopqrstuvwxyz0123456789-_."
 MOST_AMOUNT = 2**53 - 1
 MOST_NUMBER = 2**32 - 1
-NO_LINK = "A" * 43
-
-
-def encoded(data):
-    return base64.urlsafe_b64encode(data).rstrip(b"=").decode()
-
-
-def link(text):
-    return encoded(hashlib.sha256(text.encode()).digest())
-
-
-def signed(key, payload):
-    text = encoded(b'{"alg":"HS256"}') + "." + encoded(payload.encode())
-    return text + "." + encoded(hmac.new(key, text.encode(), hashlib.sha256).digest())
-
-
-def canonical(message):
-    return json.dumps(message, sort_keys=True, separators=(",", ":"))
 
 
 class Draw:
@@ -165,7 +133,7 @@ def chain(draw, key, kinds):
         if kind == "reject":
             said["reason"] = draw.random.choice(REASONS)
         plain.append(canonical(said))
-        texts.append(signed(key, plain[-1]))
+        texts.append(signed(key, plain[-1].encode()))
     return plain, texts
 
 
@@ -278,7 +246,7 @@ def check_texts(check, draw):
         kind = json.loads(text)["kind"]
         check.run(["check"], text, 0, f"text {kind} {len(text)} bytes\n")
         key = draw.key()
-        jws = signed(key, text)
+        jws = signed(key, text.encode())
         check.run(["check", f"--key={encoded(key)}"], jws, 0, f"jws {kind} {len(jws)} bytes\n")
 
 

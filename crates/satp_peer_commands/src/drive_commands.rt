@@ -17,8 +17,8 @@ use std::alloc::Global;
 
 /// Starts a session of the gateway in a directory, and drives it over a connection to its peer.
 ///
-/// After the ends of the opening, in this order: `Place` with `Exists` where a record names the session, and with `Full` where 2,048 were started here, before the wire is called; then how the drive ended. `Done` comes exactly where the session is
-/// committed, and `RolledBack` where it is rolled back; each is printed, with the number of messages. `Peer` comes with `Wire` where a call on the wire failed, and else for
+/// After the ends of the opening, in this order: `Place` with `Exists` where a record names the session, and with `Full` where 2,048 were started here, before the wire is called; then how the drive ended. `Done` comes if, and only if, the drive ended
+/// as committed and its line was printed, and `RolledBack` if, and only if, it ended as rolled back and its line was printed. The line has the number of messages. `Peer` comes with `Wire` where a call on the wire failed, and else for
 /// what the peer answered; `Place` with `Site` where a call on the site failed; and `Memory` may come at any point.
 ///
 /// `OutputFailed` comes where the line isn't printed, in place of `Done` and `RolledBack`, and undoes nothing.
@@ -84,8 +84,8 @@ fn start_at<S: Site, W: Wire, K: Sink>(
 ///
 /// Where that work makes the chain whole, or it was, the wire isn't called.
 ///
-/// After the ends of the opening, in this order: `Place` with `NoSession` where no record names the session, before the wire is called; then how the drive ended. `Done` comes exactly where the session is
-/// committed, and `RolledBack` where it is rolled back; each is printed, with the number of messages. `Peer` comes with `Wire` where a call on the wire failed, and else for
+/// After the ends of the opening, in this order: `Place` with `NoSession` where no record names the session, before the wire is called; then how the drive ended. `Done` comes if, and only if, the drive ended
+/// as committed and its line was printed, and `RolledBack` if, and only if, it ended as rolled back and its line was printed. The line has the number of messages. `Peer` comes with `Wire` where a call on the wire failed, and else for
 /// what the peer answered; `Place` with `Site` where a call on the site failed; and `Memory` may come at any point.
 ///
 /// `OutputFailed` comes where the line isn't printed, in place of `Done` and `RolledBack`, and undoes nothing.
@@ -141,8 +141,8 @@ fn resume_at<S: Site, W: Wire, K: Sink>(
 
 /// Begins a recovery round of a session of the gateway in a directory, and drives it over a connection to its peer.
 ///
-/// After the ends of the opening, in this order: `Place` with `NoSession` where no record names the session, before the wire is called; then how the drive ended. `Done` comes exactly where the session is
-/// committed, and `RolledBack` where it is rolled back; each is printed, with the number of messages. `Peer` comes with `Wire` where a call on the wire failed, and else for
+/// After the ends of the opening, in this order: `Place` with `NoSession` where no record names the session, before the wire is called; then how the drive ended. `Done` comes if, and only if, the drive ended
+/// as committed and its line was printed, and `RolledBack` if, and only if, it ended as rolled back and its line was printed. The line has the number of messages. `Peer` comes with `Wire` where a call on the wire failed, and else for
 /// what the peer answered; `Place` with `Site` where a call on the site failed; and `Memory` may come at any point.
 ///
 /// `OutputFailed` comes where the line isn't printed, in place of `Done` and `RolledBack`, and undoes nothing.

@@ -15,7 +15,7 @@ use Rattle.satp_serve.specs.declared.turn.Turn.{Turn}
 use Rattle.satp_serve.specs.declared.turn.Turn.TheVariants as turn
 use Rattle.satp_serve.specs.Exchange.{Talk, Serves, silent}
 use Rattle.satp_serve.specs.Feeding.{AwaitsMore, FeedAnswers, Serving, standing, talk, unheard}
-use Rattle.satp_serve.specs.Connections.{Closes, Hears, Responds, Stops, Waits, most_heard}
+use Rattle.satp_serve.specs.Connections.{Closes, Hears, LastSaid, Responds, Stops, Waits, most_heard}
 use Rattle.satp_serve.proofs.Exchanging.{serves_nothing, serves_then}
 use Rattle.satp_serve.proofs.Saying.{after, halts_after, serves_after}
 use Rattle.satp_wires.proofs.Traffic.{exchanged_nothing, exchanged_twice}
@@ -150,8 +150,8 @@ most_joined : (bytes piece : List ℕ) (count : ℕ) → length bytes ≡ count 
 most_joined bytes piece count is most = omega (arith, length-append bytes piece, is, most)
 
 pub ends_in_memory : {G S : Type 0} (replies : G → S → List ℕ → Result Replied Halt → G → S → Type 0) (g : G) (s : S) (served : Serving) (h : G) (t : S) (old new : Option Traffic) (before later count : ℕ)
-    → AllHeard replies g s served h t old new count → count ≤ most_heard → Hears replies g s h t served.count old new before later end.Memory
-ends_in_memory replies g s served h t old new before later count a most = record {
+    → AllHeard replies g s served h t old new count → count ≤ most_heard → later ≡ before → Hears replies g s h t served.count old new before later end.Memory
+ends_in_memory replies g s served h t old new before later count a most quiet = record {
   heard = a.bytes;
   said = a.said;
   rest = [];
@@ -160,7 +160,7 @@ ends_in_memory replies g s served h t old new before later count a most = record
   closed = false;
   told = a.told;
   most = omega (arith, a.count_is, most);
-  ends = (inl refl, inr (waits replies g s served h t old new count a));
+  ends = inr (refl, quiet, waits replies g s served h t old new count a);
 }
 
 pub ends_in_wire : {G S : Type 0} (replies : G → S → List ℕ → Result Replied Halt → G → S → Type 0) (g : G) (s : S) (served : Serving) (h : G) (t : S) (old middle new : Option Traffic) (before between later count : ℕ)
@@ -222,8 +222,8 @@ responds_closes replies g s served next h t h2 t2 old middle read new before bet
   ends = (refl, responds.2 ∙ quiet, inl (feeds_closes replies g s served next h t h2 t2 old middle count piece out a unclosed responds.0));
 }
 
-risen : (before between later : ℕ) (rest : List ℕ) → between ≡ before → (rest ≡ []) ⊎ Rose between later → (rest ≡ []) ⊎ Rose before later
-risen before between later rest quiet = elim [ inl none ↦ inl none | inr rose ↦ inr (subst (λ (n : ℕ). Rose n later) quiet rose) ]
+risen : (before between later : ℕ) (rest : List ℕ) → between ≡ before → LastSaid rest between later → LastSaid rest before later
+risen before between later rest quiet = subst (λ (n : ℕ). LastSaid rest n later) quiet
 
 pub responds_fails : {G S : Type 0} (replies : G → S → List ℕ → Result Replied Halt → G → S → Type 0) (g : G) (s : S) (served next : Serving) (h : G) (t : S) (h2 : G) (t2 : S) (old middle read new : Option Traffic) (before between later count : ℕ) (piece out : List ℕ) (why : ConnectionEnd)
     → AllHeard replies g s served h t old middle count → served.closed ≡ false → read ≡ option_map (exchanged piece [] false) middle → between ≡ before → count + length piece ≤ most_heard
@@ -262,5 +262,5 @@ responds_fails replies g s served next h t h2 t2 old middle read new before betw
   closed = next.closed;
   told = told_said old read new (a.bytes ++ piece) a.said responds.1.said (told_read old middle read a.bytes a.said piece false a.told reads) responds.1.told;
   most = most_joined a.bytes piece count a.count_is most;
-  ends = (risen before between later responds.1.rest quiet responds.1.whole, inl (feeds_stops replies g s served next h t h2 t2 old middle count piece out _ a unclosed responds.0));
+  ends = inl (risen before between later responds.1.rest quiet responds.1.whole, feeds_stops replies g s served next h t h2 t2 old middle count piece out _ a unclosed responds.0);
 }

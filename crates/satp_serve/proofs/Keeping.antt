@@ -98,9 +98,9 @@ connection_keeps replies holds k g s h t count old new before after end.Wire oth
   | inr closes ↦ closes_keep replies holds k g s is.heard (standing h t count is.whole is.closed) closes
 ]
 connection_keeps replies holds k g s h t count old new before after end.Site other is = absurd (other refl)
-connection_keeps replies holds k g s h t count old new before after end.Memory other is = elim (is.ends.1) [
-  | inl stops ↦ stops_keep replies holds k g s is.heard (standing h t count is.whole is.closed) stops
-  | inr waits ↦ waits_keep replies holds k g s is.heard (standing h t count is.whole is.closed) waits
+connection_keeps replies holds k g s h t count old new before after end.Memory other is = elim (is.ends) [
+  | inl stops ↦ stops_keep replies holds k g s is.heard (standing h t count is.whole is.closed) stops.1
+  | inr waits ↦ waits_keep replies holds k g s is.heard (standing h t count is.whole is.closed) waits.2
 ]
 
 -- ---- where the site failed

@@ -101,7 +101,7 @@ ends_viewed view replies seen v g s u heard rest before after end.Wire is =
     (is.0, elim (is.1) [ inl waits ↦ inl (waits_viewed view replies seen v g s heard u waits) | inr closes ↦ inr (closes_viewed view replies seen v g s heard u closes) ])
 ends_viewed view replies seen v g s u heard rest before after end.Site is = (is.0, stops_viewed view replies seen v g s heard serve.Site u is.1)
 ends_viewed view replies seen v g s u heard rest before after end.Memory is =
-    (is.0, elim (is.1) [ inl stops ↦ inl (stops_viewed view replies seen v g s heard serve.Memory u stops) | inr waits ↦ inr (waits_viewed view replies seen v g s heard u waits) ])
+    elim is [ inl stops ↦ inl (stops.0, stops_viewed view replies seen v g s heard serve.Memory u stops.1) | inr waits ↦ inr (waits.0, waits.1, waits_viewed view replies seen v g s heard u waits.2) ]
 
 pub connection_viewed : {G S V : Type 0} (view : S → V) (replies : G → S → List ℕ → Result Replied Halt → G → S → Type 0) (seen : G → V → List ℕ → Result Replied Halt → G → V → Type 0) → Views view replies seen
     → (g : G) (s : S) (h : G) (t : S) (count : ℕ) (old new : Option Traffic) (before after : ℕ) (why : ConnectionEnd) → Hears replies g s h t count old new before after why → Hears seen g (view s) h (view t) count old new before after why

@@ -1,5 +1,5 @@
 -- What a connection did to a wire, and how it ended.
-use Rattle.std.specs.Prelude.{◌≡◌, ◌≤◌, ◌<◌, ◌⊎◌, ℕ, Bool, true, false, List, [], ◌++◌, length, Option, option_map, Result, Ok, Err}
+use Rattle.std.specs.Prelude.{◌≡◌, ◌≢◌, ◌≤◌, ◌<◌, ◌⊎◌, ℕ, Bool, true, false, List, [], ◌++◌, length, Option, option_map, Result, Ok, Err}
 use Rattle.satp_base.specs.Streams.{Rose}
 use Rattle.satp_base.specs.Wires.{Traffic, exchanged, says}
 use Rattle.satp_http.specs.Feeds.{RequestFeed, no_requests}
@@ -50,13 +50,17 @@ pub record Stops {G S : Type 0} (replies : G → S → List ℕ → Result Repli
 
 -- ---- what of it the wire took
 
--- all of them were, or a call failed
+-- The whole was said and no call failed, or a call failed and some of it wasn't.
+abbrev pub LastSaid : List ℕ → ℕ → ℕ → Type 0
+LastSaid rest before after = ((rest ≡ []) × (after ≡ before)) ⊎ ((rest ≢ []) × Rose before after)
+
+-- the last bytes, said as far as the wire took them
 pub record SaysLast (bytes : List ℕ) (old new : Option Traffic) (before after : ℕ) : Type 0 where
   pub said : List ℕ
   pub rest : List ℕ
   pub cut : bytes ≡ said ++ rest
   pub told : new ≡ option_map (says said) old
-  pub whole : (rest ≡ []) ⊎ Rose before after
+  pub whole : LastSaid rest before after
 
 -- ---- a connection
 
@@ -73,9 +77,9 @@ EndsAt replies g s u heard rest before after end.Closed =
     (rest ≡ []) × (after ≡ before) × (Closes replies g s heard u ⊎ (Waits replies g s heard u × (length heard ≡ most_heard)))
 EndsAt replies g s u heard rest before after end.Ended = (rest ≡ []) × (after ≡ before) × Waits replies g s heard u × (length heard < most_heard)
 EndsAt replies g s u heard rest before after end.Wire = Rose before after × ((Waits replies g s heard u) ⊎ (Closes replies g s heard u))
-EndsAt replies g s u heard rest before after end.Site = ((rest ≡ []) ⊎ Rose before after) × Stops replies g s heard serve.Site u
+EndsAt replies g s u heard rest before after end.Site = LastSaid rest before after × Stops replies g s heard serve.Site u
 EndsAt replies g s u heard rest before after end.Memory =
-    ((rest ≡ []) ⊎ Rose before after) × (Stops replies g s heard serve.Memory u ⊎ Waits replies g s heard u)
+    (LastSaid rest before after × Stops replies g s heard serve.Memory u) ⊎ ((rest ≡ []) × (after ≡ before) × Waits replies g s heard u)
 
 -- From g and s a connection led to h and t, and handed so many requests over. It said the whole conversation but for the rest.
 pub record Hears {G S : Type 0} (replies : G → S → List ℕ → Result Replied Halt → G → S → Type 0) (g : G) (s : S) (h : G) (t : S) (count : ℕ) (old new : Option Traffic) (before after : ℕ) (why : ConnectionEnd) : Type 0 where

@@ -224,7 +224,7 @@ module _ (g h : GatewayState) (s t : SiteView) (requests : ℕ) (heard : List �
     ends-ask end.Ended rest before after ends = waits-asks ends.2
     ends-ask end.Wire rest before after ends = elim ends.1 [ inl waits ↦ waits-asks waits | inr closes ↦ closes-asks closes ]
     ends-ask end.Site rest before after ends = stopped-asks _ ends.1
-    ends-ask end.Memory rest before after ends = elim ends.1 [ inl stops ↦ stopped-asks _ stops | inr waits ↦ waits-asks waits ]
+    ends-ask end.Memory rest before after ends = elim ends [ inl stops ↦ stopped-asks _ stops.1 | inr waits ↦ waits-asks waits.2 ]
 
 pub connections-ask : ConnectionsAsk
 connections-ask g h s t old new before after connection c = ends-ask g h s t connection.requests c.heard c.whole c.closed connection.end c.rest before after c.ends

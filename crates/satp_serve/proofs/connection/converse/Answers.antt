@@ -7,4 +7,4 @@ pub returns-in_default-clause-says : goal.returns-in_default-clause-says
 returns-in_default-clause-says g c =
     let told = g.W.Wire.told c.args.wire.now in
     let faults = g.W.Wire.faults c.args.wire.now in
-    ends_in_memory g.G.Responder.replies c.args.responder.now c.args.site.now unheard c.args.responder.now c.args.site.now told told faults faults 0 (heard_none g.G.Responder.replies c.args.responder.now c.args.site.now unheard told refl) (omega arith)
+    ends_in_memory g.G.Responder.replies c.args.responder.now c.args.site.now unheard c.args.responder.now c.args.site.now told told faults faults 0 (heard_none g.G.Responder.replies c.args.responder.now c.args.site.now unheard told refl) (omega arith) refl

@@ -22,7 +22,7 @@ loop-heard-init g c = record {
 
 pub returns-in_default-clause-hears : goal.returns-in_default-clause-hears
 returns-in_default-clause-hears g c =
-    ends_in_memory g.G.Responder.replies c.args.responder.now c.args.site.now c.loop-heard.served c.loop-heard.responder c.loop-heard.site (g.W.Wire.told c.args.wire.now) (g.W.Wire.told c.loop-heard.wire) (g.W.Wire.faults c.args.wire.now) (g.W.Wire.faults c.loop-heard.wire) c.loop-heard.heard c.loop-heard.invariant.heard (omega (arith, c.loop-heard.invariant.within))
+    ends_in_memory g.G.Responder.replies c.args.responder.now c.args.site.now c.loop-heard.served c.loop-heard.responder c.loop-heard.site (g.W.Wire.told c.args.wire.now) (g.W.Wire.told c.loop-heard.wire) (g.W.Wire.faults c.args.wire.now) (g.W.Wire.faults c.loop-heard.wire) c.loop-heard.heard c.loop-heard.invariant.heard (omega (arith, c.loop-heard.invariant.within)) c.loop-heard.invariant.faults
 
 pub returns-then-count-eq0-clause-hears : goal.returns-then-count-eq0-clause-hears
 returns-then-count-eq0-clause-hears g c =

@@ -41,10 +41,6 @@ pub strange-own : (p : Party) (xs : List Stored) (s : SessionId) (own named : Bo
 strange-own p xs s own named e holds k =
     not-negate named ∙ ap negate k ∙ ap (λ b. if b then negate (is_named s xs) else negate (equal_names s.gateway p.peer)) (sym holds ∙ e)
 
-pub strange-other : (p : Party) (xs : List Stored) (s : SessionId) (own peer : Bool) → own ≡ equal_names s.gateway p.name → own ≡ false → peer ≡ equal_names s.gateway p.peer → not peer ≡ is_strange p xs s
-strange-other p xs s own peer e fails k =
-    not-negate peer ∙ ap negate k ∙ ap (λ b. if b then negate (is_named s xs) else negate (equal_names s.gateway p.peer)) (sym fails ∙ e)
-
 -- two tests of equal things
 pub same-test : (r b : Bool) → (r ≡ true → b ≡ true) → (b ≡ true → r ≡ true) → r ≡ b
 same-test true b f g = sym (f refl)

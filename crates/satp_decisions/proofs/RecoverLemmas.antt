@@ -4,9 +4,7 @@ use Rattle.std.specs.Prelude.{drop, option_and_then, slice_get, Result, Ok, Err,
 use Rattle.std.proofs.lemmas.List.{append-nil}
 use Rattle.satp_base.specs.Chains.{head_of, role_at}
 use Rattle.satp_base.specs.Roles.{both, negate, rescues}
-use Rattle.satp_base.specs.Canonical.{canonical}
-use Rattle.satp_base.specs.Signatures.{jws, own, own_header}
-use Rattle.satp_base.specs.declared.name.Name.{Name}
+use Rattle.satp_base.specs.Signatures.{own}
 use Rattle.satp_base.specs.Tales.{is_role}
 use Rattle.satp_base.specs.Verdicts.{IsChainBody, IsOfSession, body_verdict}
 use Rattle.satp_base.specs.declared.head.Head.{Head}
@@ -34,7 +32,7 @@ use Rattle.satp_recovery.specs.declared.choice.Step.{Step}
 use Rattle.satp_recovery.specs.declared.choice.Step.TheVariants.{Adopt, Equal, Resend}
 use Rattle.satp_recovery.proofs.RoundLemmas.{by-answers, by-takes}
 use Rattle.satp_sides.specs.Calls as call
-use Rattle.satp_sides.specs.Calls.{Refusal, Hears, IsEntryOf, IsOwn, Run, adopted, adopted_as, asked, fault_in, first_refusal, heard, is_adopt, is_adopted, is_full, is_misaddressed, is_named, is_next, is_strange, named, own_at, refusal_of, replied, rescue_in, step_refusal, test, text_of, update_text, updated, verdict_in}
+use Rattle.satp_sides.specs.Calls.{Refusal, Hears, IsEntryOf, IsOwn, adopted, adopted_as, asked, fault_in, first_refusal, heard, is_adopt, is_adopted, is_full, is_misaddressed, is_named, is_next, is_strange, named, own_at, refusal_of, replied, rescue_in, step_refusal, test, text_of, update_text, updated, verdict_in}
 use Rattle.satp_sides.specs.Logs.{IsLog}
 use Rattle.satp_sides.specs.Moves.{Among, Sayable, message_from}
 use Rattle.satp_sides.specs.Moves.Among.{first as among_first}
@@ -49,7 +47,7 @@ use Rattle.satp_points.specs.declared.decision.Decision.TheVariants.{Gives, Work
 use Rattle.satp_points.specs.declared.decision.Replying.TheVariants as replying
 use Rattle.satp_points.specs.declared.fault.Refused.{Refused}
 use Rattle.satp_points.specs.declared.fault.Refused.TheVariants as refused
-use Rattle.satp_decisions.specs.Steps.{ComesTo, FoundEntry, IsOfPeer, adopt_refusal, asked_decision, first_noted, first_rescued, is_chain_body, is_of_chain, nothing_text, room_refusal}
+use Rattle.satp_decisions.specs.Steps.{ComesTo, FoundEntry, IsOfPeer, adopt_refusal, asked_decision, first_noted, first_rescued, is_chain_body, is_of_chain, room_refusal}
 use Rattle.satp_decisions.proofs.HearLemmas.{body_tests, both-true, hears-answers, hears-decided, hears-refused, left-none}
 use Rattle.satp_decisions.proofs.Naming.{from-peer, peer-session}
 use Rattle.satp_decisions.specs.Tests.{HasEntry}
@@ -160,17 +158,17 @@ module _ (p : Party) (xs : List Stored) (log : IsLog p xs) (m : Message) (t : Te
         (refl, λ w. subst IsRecover (sym is) tt)
         (λ side q. (let here = ap (slot_in s) q ∙ so in ap (asked p side s n) here ∙ run-noted p s (replying.Update n) side l (rescue_in l.view) here))
 
-    nothing-is : update_text p m.session n [] ≡ nothing_text p m.session
+    nothing-is : update_text p m.session n [] ≡ update_text p m.session 0 []
     nothing-is = ap (λ es. own p.key (message_from p m.session (body.Update 0 es))) (drop-nil (0 - (0 - n)))
 
-    nothing-says : slot_in m.session xs ≡ None → Sayable p xs (t ∷ []) (nothing_text p m.session)
+    nothing-says : slot_in m.session xs ≡ None → Sayable p xs (t ∷ []) (update_text p m.session 0 [])
     nothing-says so =
         let among : Among (own p.key m) (t ∷ []) = subst (λ u. Among u (t ∷ [])) own_text.1 among_first in
         Knows_none m n last (peer-session p xs m.session peer.known so) (no-records p xs m.session log so) own_text.0 (from-peer p m peer.addressed).0 is among ((omega arith, refl), tt)
 
-    pub recover-nothing : (k : ℕ) → answer_of (head_of (chain_in m.session xs)) n last ≡ Ok k → slot_in m.session xs ≡ None → Decided p xs (Hears m t e) (Gives (Some (nothing_text p m.session)))
+    pub recover-nothing : (k : ℕ) → answer_of (head_of (chain_in m.session xs)) n last ≡ Ok k → slot_in m.session xs ≡ None → Decided p xs (Hears m t e) (Gives (Some (update_text p m.session 0 [])))
     recover-nothing k h so =
-        hears-decided p xs m t e peer (body.Recover n last) is (Gives (Some (nothing_text p m.session))) (recover-passed k h) tt (nothing-says so)
+        hears-decided p xs m t e peer (body.Recover n last) is (Gives (Some (update_text p m.session 0 []))) (recover-passed k h) tt (nothing-says so)
         (λ side q. ap (asked p side m.session n) (ap (slot_in m.session) q ∙ so) ∙ ap (λ u. replied (Some u)) nothing-is)
 
     -- what a side that is asked for its chain does
@@ -249,11 +247,6 @@ entry-is key n t m None own_text of = absurd (of m own_text)
 entry-is key n t m (Some x) own_text of = ap Some (own_shows key key x m of.0 own_text.0 (sym of.1 ∙ own_text.1))
 
 module _ (p : Party) (xs : List Stored) (s : SessionId) (t : Text) where
-  -- a text that is no message's
-  pub entry-unread : ((m : Message) → IsOwn p.key t m → ⊥) → FoundEntry p xs s t None
-  entry-unread never n None of = refl
-  entry-unread never n (Some m) of = absurd (never m of)
-
   all-false : (a b c d : Bool) → both a (both b c) ≡ false → (c ≡ false → d ≡ false) → both a (both b d) ≡ false
   all-false true true c d h k = k h
   all-false true false c d h k = refl
@@ -393,22 +386,11 @@ module _ (log : LogState) (setup : Setup) (xs : List Stored) (h : LogHolds log s
     pub read-late : (v ≡ verdict.Next → ⊥) → FoundEntry (party_of setup) xs s t None
     read-late late = entry-late (party_of setup) xs s t entry.message read-own (λ is. late (sym judged-as ∙ is))
 
-pub read-none : (log : LogState) (setup : Setup) (xs : List Stored) (s : SessionId) (key t : Text) → LogHolds log setup xs → key ≡ log.setup.key → ((m : Message) → IsOwn key t m → ⊥) → FoundEntry (party_of setup) xs s t None
-read-none log setup xs s key t h k fails =
-    entry-unread (party_of setup) xs s t (λ m own_text. fails m (subst (λ x. IsOwn x t m) (sym k) (subst (λ (x : Setup). IsOwn x.key t m) (sym h.setup_is) own_text)))
-
 -- ---- texts that are said
 
 pub ok-more : {A E : Type 0} (r : Result A E) (P Q : A → Type 0) → IfOk r P → ((a : A) → P a → Q a) → IfOk r Q
 ok-more (Ok a) P Q h k = k a h
 ok-more (Err x) P Q h k = h
-
-pub nothing-written : (p : Party) (s : SessionId) (key payload t : Text) (name peer : Name) (entries : List Text) → key ≡ p.key → name ≡ p.name → peer ≡ p.peer → entries ≡ []
-    → payload ≡ canonical (record { session = s; sender = name; receiver = peer; body = body.Update 0 entries }) → t ≡ jws key own_header payload → t ≡ nothing_text p s
-unfolding own
-nothing-written p s key payload t name peer entries k n q es pay text =
-    let said : record { session = s; sender = name; receiver = peer; body = body.Update 0 entries } ≡ message_from p s (body.Update 0 []) = λ i. record { session = s; sender = n i; receiver = q i; body = body.Update 0 (es i) } in
-    text ∙ ap (λ x. jws x own_header payload) k ∙ ap (jws p.key own_header) (pay ∙ ap canonical said)
 
 -- this side's text at a place
 module _ (xs : List Stored) (s : SessionId) (l : Slot) (place : ℕ) (role : Role) (b : Bool) (so : slot_in s xs ≡ Some l) (same : role ≡ l.view.role) (whose : b ≡ is_role role (Some (role_at place))) where

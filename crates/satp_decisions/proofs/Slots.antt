@@ -1,5 +1,5 @@
 -- What the records say of a session before and after the first record of a call, and the run that the record begins.
-use Rattle.std.proofs.Common.{◌≡◌, true, false, List, [], ◌∷◌, ◌++◌, map, Option, Some, None, refl, sym, ap, ap₂, ◌∙◌}
+use Rattle.std.proofs.Common.{◌≡◌, true, false, List, [], ◌∷◌, ◌++◌, Option, Some, None, refl, sym, ap, ap₂, ◌∙◌}
 use Rattle.std.specs.Prelude.{is_some, option_map}
 use Rattle.std.proofs.lemmas.List.{append-nil}
 use Rattle.satp_base.specs.Roles.{RoleRule}
@@ -11,7 +11,7 @@ use Rattle.satp_base.specs.declared.record.Rec.TheVariants.{Began}
 use Rattle.satp_base.specs.declared.session.SessionId.{SessionId}
 use Rattle.satp_base.specs.declared.view.View.{View}
 use Rattle.satp_log.proofs.LogLemmas.{unnamed}
-use Rattle.satp_sides.specs.Calls.{Call, Run, is_named, named, refusal_of, run_of, accepted, by_tests, runs, runs_noted}
+use Rattle.satp_sides.specs.Calls.{Call, is_named, named, refusal_of, run_of, accepted, by_tests, runs, runs_noted}
 use Rattle.satp_sides.specs.Logs.{IsLog, IsNote}
 use Rattle.satp_sides.specs.Logs.MayCome.{Notes}
 use Rattle.satp_sides.specs.Points.{Appends, Party, Side, Slot, Stored, Text, chain_in, noted, records_of, slot, slot_in, stored, texts_in_record, view_in}
@@ -78,9 +78,6 @@ module _ (p : Party) (xs : List Stored) (s : SessionId) where
 -- ---- runs
 
 module _ (p : Party) (s : SessionId) (reply : Replying) where
-  abbrev pub runs-on : Side → List Stored → Slot → Run
-  runs-on side xs l = runs p side s l (map Appends xs) (reply_by p s reply)
-
   pub run-nothing : (side : Side) (l : Slot) → slot_in s side.records ≡ Some l → runs p side s l [] (reply_by p s reply) ≡ decided_run p side (Works s first.Nothing reply)
   run-nothing side l e = ap (named (λ (k : Slot). runs p side s k [] (reply_by p s reply))) (sym e ∙ ap (slot_in s) (sym (append-nil side.records)))
 

@@ -2,7 +2,6 @@
 use Rattle.std.specs.Prelude.{◌≡◌, ℕ, Bool, true, false, List, [], ◌∷◌, Option, Some, None, Result, Ok, Err}
 use Rattle.satp_base.specs.Chains.{next_text}
 use Rattle.satp_base.specs.Roles.{both, negate}
-use Rattle.satp_base.specs.Signatures.{own}
 use Rattle.satp_base.specs.declared.message.Body.{Body}
 use Rattle.satp_base.specs.declared.message.Body.TheVariants as body
 use Rattle.satp_base.specs.declared.message.Message.{Message}
@@ -22,9 +21,8 @@ use Rattle.satp_records.specs.declared.stored.Setup.{Setup}
 use Rattle.satp_records.specs.declared.stored.Stored.TheVariants as journaled
 use Rattle.satp_recovery.specs.declared.choice.RecoveryFault.TheVariants.{EntryRefused}
 use Rattle.satp_sides.specs.Calls as call
-use Rattle.satp_sides.specs.Calls.{Refusal, IsEntryOf, IsOwn, Run, adopted, adopted_as, first_refusal, is_adopted, is_full, is_misaddressed, is_named, is_strange, rescue_in, taken, test, verdict_in}
+use Rattle.satp_sides.specs.Calls.{Refusal, IsEntryOf, IsOwn, Run, adopted, adopted_as, first_refusal, is_adopted, is_full, is_misaddressed, is_named, is_strange, rescue_in, taken, test, update_text, verdict_in}
 use Rattle.satp_sides.specs.Logs.{IsLog}
-use Rattle.satp_sides.specs.Moves.{message_from}
 use Rattle.satp_sides.specs.Points.{Party, Side, Slot, Stored, Text, is_session, most_sessions, slot_in}
 use Rattle.satp_points.specs.Deciding.{IsWritten, RefusesAs}
 use Rattle.satp_points.specs.Decisions.{IsReady, decided_run}
@@ -112,13 +110,9 @@ TakesNext signed log result =
 
 -- ---- recovery
 
--- what a side says that has nothing of a session's chain
-abbrev pub nothing_text : Party → SessionId → Text
-nothing_text p s = own p.key (message_from p s (body.Update 0 []))
-
 -- what it does that is asked for its chain by a peer that has a chain of this length
 abbrev pub asked_decision : Party → SessionId → ℕ → Option Slot → Decision
-asked_decision p s n None = Gives (Some (nothing_text p s))
+asked_decision p s n None = Gives (Some (update_text p s 0 []))
 asked_decision p s n (Some l) = Works s (first_rescued l.view) (replying.Update n)
 
 -- ---- an entry of an update

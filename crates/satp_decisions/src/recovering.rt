@@ -7,16 +7,15 @@ ghost use Rattle.satp_base.specs.declared.message.Message.{Message as MessageOf}
 ghost use Rattle.satp_sides.specs.Calls.{IsEntryOf, IsOwn, own_at};
 ghost use Rattle.satp_sides.specs.Points.{Slot, chain_in, is_session, slot_in};
 ghost use Rattle.satp_decisions.specs.Tests.{DecidesMessage, HasEntry, IsHeld, IsOfTest, IsOfTestOrMemory, OverLog};
-ghost use Rattle.satp_decisions.specs.Steps.{AdoptsEntry, FindsEntry, IsOne, OverGateways, asked_decision, is_of_chain, nothing_text};
+ghost use Rattle.satp_decisions.specs.Steps.{AdoptsEntry, FindsEntry, IsOne, OverGateways, asked_decision, is_of_chain};
 
 use crate::addressed::is_addressed;
 use crate::on_chain::{take as take_next, verdict};
 use crate::own::rescued;
 use satp_base::{Body, Head, Link, Memory, Message, Role, SessionId, Text, Texts, Verdict};
-use satp_canon::write;
 use satp_chain::Signed;
-use satp_jws::sign;
 use satp_log::{Log, Unheard, hear};
+use satp_messages::nothing_known;
 use satp_points::{Decision, Refused, Replying};
 use satp_recovery::{RecoveryFault, Step, agree, answer, take};
 use std::alloc::Global;
@@ -119,24 +118,6 @@ fn head(log: &Log, session: SessionId) -> Head
             before: Link([0; 32]),
         },
     }
-}
-
-/// What a side says that has nothing of a session's chain.
-fn nothing_known(alloc: Global, log: &Log, session: SessionId) -> Result<Text, Memory>
-    ensures { OverLog log.now (λ p xs. IfOk result (λ text. text ≡ nothing_text p session)) }
-{
-    let setup = log.setup();
-    let message = Message {
-        session,
-        sender: setup.name,
-        receiver: setup.peer,
-        body: Body::Update {
-            length: 0,
-            entries: Texts::new(alloc),
-        },
-    };
-    let payload = write(alloc, &message)?;
-    sign(alloc, log.key(), payload.bytes())
 }
 
 /// Takes the one entry of an update as the message at this place.

@@ -1,8 +1,7 @@
 -- Which records come due, and when nothing is due any more.
 use Rattle.std.proofs.Common.{◌≡◌, inl, inr, ℕ, zero, suc, Bool, true, false, refl, sym, ap, subst, ◌∙◌, if◌then◌else◌}
 use Rattle.satp_base.specs.Acts.{MayAnswer}
-use Rattle.satp_base.specs.Roles.{RoleRule, after_of, next_of}
-use Rattle.satp_base.specs.Roles.RoleRule.{Answered, Due}
+use Rattle.satp_base.specs.Roles.{after_of, next_of}
 use Rattle.satp_base.specs.Tales.{is_whole}
 use Rattle.satp_base.specs.Views.{push}
 use Rattle.satp_base.specs.declared.ledger.Answer.{Answer}
@@ -19,7 +18,6 @@ use Rattle.satp_base.specs.declared.record.Rec.TheVariants.{Began, Took, Made, D
 use Rattle.satp_base.specs.declared.view.View.{View}
 use Rattle.satp_base.proofs.Finite.{In, all_of, all_of-at, andthen-left}
 use Rattle.satp_base.proofs.Finite.In.{here, there}
-use Rattle.satp_base.proofs.RecordLaws.{gives-after}
 use Rattle.satp_base.proofs.RoleLemmas.{role-gives}
 use Rattle.satp_sides.specs.DueLaws.{Rests}
 use Rattle.satp_sides.specs.Logs.{IsNote}
@@ -166,9 +164,3 @@ bounded (suc n) recs acts v ok = at-next n (bounded n) recs acts v (subst (λ x.
 -- over every view, whatever the ledger answers
 pub three-turns : (v : View) → RestsWithin 3 v
 three-turns v = bounded 3 3 2 v (every-look v.role (look_of v))
-
--- ---- the rule lets it come
-
-pub comes-ruled : (v : View) (r : Rec) → Comes v r → RoleRule v.role v r
-comes-ruled v _ (Appended r e) = Due e
-comes-ruled v _ (Follows op a e m) = Answered op a e (gives-after op a (after_of op a) m refl)

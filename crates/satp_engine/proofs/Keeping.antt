@@ -79,9 +79,6 @@ payload-fits payloads setup xs x payload j may is = subst IsPayload (sym is) (pa
 
 -- ---- one gateway, with one list of records
 
-pub same-records : (r : Records) (setup : Setup) (xs : List Stored) (k : KeepsSome r) → Keeps r setup xs → (r.log.setup ≡ setup) × (k.0 ≡ xs)
-same-records r setup xs k h = one-journal r.journal.held.payloads r.log.setup setup k.0 xs k.1.journal h.journal
-
 -- a gateway that holds records keeps them
 pub holding-keeps : (r : Records) (setup : Setup) (xs : List Stored) → KeepsSome r → Holds r.journal.held setup xs → Keeps r setup xs
 unfolding Holds

@@ -10,7 +10,6 @@ pub mod Beginning
 pub mod Firsts
 pub mod StartLemmas
 pub mod ReplyLemmas
-pub mod MessageLemmas
 pub mod Provisions
 pub mod Carrying
 pub mod DoneLemmas

@@ -208,9 +208,6 @@ module _ (left i : ℕ) (sum : left + i ≡ 3) (less : i < 3) (s : SessionId) (s
   pub fewer-sum : fewer + (i + 1) ≡ 3
   fewer-sum = omega (arith, sum, one-more)
 
-  pub room-now : (j : JournalState) → HasRoom left j → HasRoom 1 j
-  room-now j h = (omega (arith, h.0, one-more), omega (arith, h.1, one-more))
-
   pub room-after : (j k : JournalState) → HasRoom left j → TakesRoom j k → HasRoom fewer k
   room-after j k h takes = takes fewer (omega (arith, h.0, one-more), omega (arith, h.1, one-more))
 

@@ -12,12 +12,12 @@ ghost use Rattle.satp_engine.specs.Carrying.{ExecuteAnswers, IsStanding, StandsA
 ghost use Rattle.satp_engine.specs.Preparing.{IsPlannedStart};
 ghost use Rattle.satp_engine.specs.Working.{Grows, HasRoom, HasState, Keeps, KeepsSome, Stands, slot_of};
 
-use crate::message::{recover, update};
 use crate::prepare::{Prepared, Provision};
 use crate::records::Records;
 use crate::reply::after_made;
 use crate::start::Start;
 use satp_base::{Memory, SessionId, Site, SiteFault, Text};
+use satp_messages::{recover, update};
 use satp_plan::Plan;
 use satp_points::{First, Refused, Replying};
 use std::alloc::Global;

@@ -2,7 +2,6 @@
 #![tactic(auto)]
 
 mod carry;
-mod message;
 mod prepare;
 mod records;
 mod register;

@@ -13,11 +13,11 @@ ghost use Rattle.satp_points.specs.States.{GateWithin, Holds, is_broken, tells};
 ghost use Rattle.satp_points.specs.declared.decision.Decision.TheVariants.{Works};
 ghost use Rattle.satp_engine.specs.Carrying.{is_site_fault};
 
-use crate::message::success;
 use crate::records::Records;
 use satp_base::{Memory, SessionId, Site, Text};
 use satp_journal::Journal;
 use satp_log::Log;
+use satp_messages::success;
 use satp_points::{Decision, First, Refused, Replying};
 use std::alloc::Global;
 use std::marker::Model;

@@ -16,7 +16,7 @@ use Rattle.satp_records.specs.Formats.{payload_of}
 use Rattle.satp_records.specs.declared.stored.Stored.TheVariants as stored
 use Rattle.satp_keeper.specs.Books.{IsFirstRefused, IsJournal, IsLedger, Operated, Runs, ledger_payloads}
 use Rattle.satp_keeper.specs.Operating.{KeepAnswers, faults_after, wants_after}
-use Rattle.satp_keeper.specs.Replaying.{Follows, Standing, start}
+use Rattle.satp_keeper.specs.Replaying.{RecordFollows, ReplayState, start}
 use Rattle.satp_keeper.specs.declared.fault.KeeperFault.{KeeperFault}
 use Rattle.satp_keeper.specs.declared.fault.KeeperFault.TheVariants as keeper
 use Rattle.satp_examples.specs.Acts.{locked}
@@ -96,20 +96,20 @@ pub record OperationsThatAreKept : Type 0 where
 -- ---- the order of records
 
 -- one asset; and with a holding, and with an operation behind it
-abbrev pub with_asset : Standing
+abbrev pub with_asset : ReplayState
 with_asset = record { genesis = record { assets = gold_1000 ∷ []; holds = [] }; begun = false; book = founded (record { assets = gold_1000 ∷ []; holds = [] }) }
 
-abbrev pub with_hold : Standing
+abbrev pub with_hold : ReplayState
 with_hold = record { genesis = with_gold; begun = false; book = new_book }
 
-abbrev pub with_operation : Standing
+abbrev pub with_operation : ReplayState
 with_operation = record { genesis = with_gold; begun = true; book = locked }
 
 pub record RecordsInOrder : Type 0 where
-  pub an_asset : Follows start (stored.Asset gold 1000) with_asset
-  pub a_hold : Follows with_asset (stored.Hold gold ann (units 500 (lit≤ tt) (lit≤ tt))) with_hold
-  pub an_operation : Follows with_hold (stored.Act Lock alpha_1 quarter) with_operation
-  pub no_asset_behind_a_hold : (new : Standing) → ¬ Follows with_hold (stored.Asset salt 20) new
-  pub no_hold_behind_an_operation : (new : Standing) → ¬ Follows with_operation (stored.Hold gold bob (units 1 (lit≤ tt) (lit≤ tt))) new
-  pub no_second_kind : (new : Standing) → ¬ Follows start (stored.Kind Accounts) new
-  pub no_operation_out_of_order : (new : Standing) → ¬ Follows with_hold (stored.Act Burn alpha_1 quarter) new
+  pub an_asset : RecordFollows start (stored.Asset gold 1000) with_asset
+  pub a_hold : RecordFollows with_asset (stored.Hold gold ann (units 500 (lit≤ tt) (lit≤ tt))) with_hold
+  pub an_operation : RecordFollows with_hold (stored.Act Lock alpha_1 quarter) with_operation
+  pub no_asset_behind_a_hold : (new : ReplayState) → ¬ RecordFollows with_hold (stored.Asset salt 20) new
+  pub no_hold_behind_an_operation : (new : ReplayState) → ¬ RecordFollows with_operation (stored.Hold gold bob (units 1 (lit≤ tt) (lit≤ tt))) new
+  pub no_second_kind : (new : ReplayState) → ¬ RecordFollows start (stored.Kind Accounts) new
+  pub no_operation_out_of_order : (new : ReplayState) → ¬ RecordFollows with_hold (stored.Act Burn alpha_1 quarter) new

@@ -19,7 +19,7 @@ use Rattle.satp_records.specs.Formats.{IsFormed, payload_of}
 use Rattle.satp_records.specs.declared.stored.Stored.{Stored}
 use Rattle.satp_records.specs.declared.stored.Stored.TheVariants as stored
 use Rattle.satp_keeper.specs.Books.{Operated, asset_record, hold_record, act_record, ledger_records, ledger_payloads, Runs}
-use Rattle.satp_keeper.specs.Replaying.{Standing, Follows, Reads, begun_by}
+use Rattle.satp_keeper.specs.Replaying.{ReplayState, RecordFollows, ReadsTo, begun_by}
 use Rattle.satp_keeper.proofs.Lists.{by_last, same_last, Last}
 use Rattle.satp_keeper.proofs.Prefixes.{asset_before, hold_before}
 
@@ -81,13 +81,13 @@ none_begun (x ∷ acts) e = absurd cc
 -- ---- the last record follows those before it
 
 -- what stood before the last record, and how that follows
-pub record Before (kind : LedgerKind) (front : List (List ℕ)) (p : List ℕ) (g : Standing) : Type 0 where
-  pub from : Standing
+pub record Before (kind : LedgerKind) (front : List (List ℕ)) (p : List ℕ) (g : ReplayState) : Type 0 where
+  pub from : ReplayState
   pub last : Stored
   pub formed : IsFormed last
   pub is : p ≡ payload_of last
-  pub reads : Reads kind front from
-  pub follows : Follows from last g
+  pub reads : ReadsTo kind front from
+  pub follows : RecordFollows from last g
 
 module _ (kind : LedgerKind) (front : List (List ℕ)) (p : List ℕ) (some : front ≢ []) where
   -- the list is known by its front and its last payload
@@ -164,7 +164,7 @@ module _ (kind : LedgerKind) (front : List (List ℕ)) (p : List ℕ) (some : fr
       without_holds : holds ≡ [] → Before kind front p (record { genesis = record { assets = assets; holds = holds }; begun = begun; book = book })
       without_holds e = subst (Ends begun book assets) (sym e) (⊎_elim without with_assets (by_last assets)) valid is list
 
-  pub before : (g : Standing) → Reads kind (front ++ p ∷ []) g → Before kind front p g
+  pub before : (g : ReplayState) → ReadsTo kind (front ++ p ∷ []) g → Before kind front p g
   before g reads = ⊎_elim none more (by_last reads.acts)
     where
       none : reads.acts ≡ [] → Before kind front p g

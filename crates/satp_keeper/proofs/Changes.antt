@@ -22,9 +22,6 @@ use Rattle.satp_base.proofs.SessionLemmas.{sessions_total}
 abbrev Moves : Book → LedgerOp → SessionId → Terms → Entry → Operation → Type 0
 Moves b op s t entry o = ((o.changes ≡ false) × (o.after ≡ b)) ⊎ ((o.changes ≡ true) × (leads op entry ≡ true) × (o.after ≡ moved b op s t) × (o.answer ≡ Some Done))
 
-stays_so : (b : Book) (op : LedgerOp) (s : SessionId) (t : Terms) (entry : Entry) (a : Option Answer) → Moves b op s t entry (record { answer = a; changes = false; after = b })
-stays_so b op s t entry a = inl (refl, refl)
-
 lock_moves : (b : Book) (s : SessionId) (t : Terms) (free : ℕ) → Moves b Lock s t Absent (lock_on b s t free)
 lock_moves b s t free = at (nat_le t.amount.number free)
   where

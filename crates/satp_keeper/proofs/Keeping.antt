@@ -1,5 +1,5 @@
 -- A keeper after an operation: what it keeps, and what it tells as a ledger.
-use Rattle.std.proofs.Common.{◌≡◌, ℕ, ◌↔◌, Bool, true, false, List, [], ◌∷◌, Option, Some, None, Result, Ok, Err, IsTrue, refl, ap, subst, sym, ◌∙◌, inl, inr, ⊎_elim}
+use Rattle.std.proofs.Common.{◌≡◌, ℕ, ◌↔◌, Bool, true, false, List, [], ◌∷◌, Option, Some, None, Result, Ok, Err, refl, ap, subst, sym, ◌∙◌, inl, inr, ⊎_elim}
 use Rattle.std.specs.Prelude.{if◌then◌else◌}
 use Rattle.satp_base.specs.Acts.{ActsOn, Asks, MayAdd, MayRefuse, operation_events}
 use Rattle.satp_base.specs.declared.area.Area.TheVariants.{Ledger}
@@ -60,19 +60,6 @@ module _ (op : LedgerOp) (session : SessionId) (terms : Terms) (b c : Book) (old
 
   pub whole_ok : (answer : Answer) → Answers (Ok answer) → new.broken ≡ false
   whole_ok answer is = stores_broken (operation b op session terms).changes is.2 ∙ is.0
-
-  -- it is broken exactly after a fault of the disk
-  pub broken_by : (fault : KeeperFault) (disk : Bool) → Answers (Err fault) → old.broken ≡ false → IsTrue disk ↔ (fault ≡ Disk) → disk ≡ new.broken
-  broken_by (OutOfOrder entry) true is whole by = absurd (let e = by.0 refl in cc)
-  broken_by (OutOfOrder entry) false is whole by = sym (ap (λ (h : Held). h.broken) is.2.1 ∙ whole)
-  broken_by Memory true is whole by = absurd (let e = by.0 refl in cc)
-  broken_by Memory false is whole by = sym (ap (λ (h : Held). h.broken) is.1.1 ∙ whole)
-  broken_by Disk true is whole by = sym (ap (λ (h : Held). h.broken) is.2)
-  broken_by Disk false is whole by = absurd (let e = by.1 refl in cc)
-  broken_by Broken disk is whole by = absurd (unbroken old is.0 whole)
-  broken_by Empty disk is whole by = absurd is
-  broken_by (Damaged n) disk is whole by = absurd is
-  broken_by (Record n) disk is whole by = absurd is
 
   stores_leaves : (kind : LedgerKind) (answer : Answer) (changes : Bool) → changes ≡ (operation b op session terms).changes → LedgerRule b op session terms answer c → Stores changes q old new told_old told_new
       → Leaves kind old.payloads b → Leaves kind new.payloads c

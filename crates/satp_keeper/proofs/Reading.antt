@@ -18,16 +18,16 @@ use Rattle.satp_records.specs.declared.stored.Stored.{Stored}
 use Rattle.satp_records.specs.declared.stored.Stored.TheVariants as stored
 use Rattle.satp_records.proofs.Payloads.{one_record}
 use Rattle.satp_keeper.specs.Books.{Operated, asset_record, hold_record, act_record, ledger_payloads, Runs, IsLedger, Leaves, IsJournal, OneBook, NoneRefused, GoesOn}
-use Rattle.satp_keeper.specs.Replaying.{Standing, Follows, Reads, begun_by, start}
+use Rattle.satp_keeper.specs.Replaying.{ReplayState, RecordFollows, ReadsTo, begun_by, start}
 use Rattle.satp_keeper.proofs.Lists.{by_last, Last}
 use Rattle.satp_keeper.proofs.BookLemmas.{Before, before, more_acts, more_holds, more_assets, none_begun, begun_last, done_same, runs_more}
 
 -- ---- a record is followed by one standing
 
-same_standing : (f g : Standing) → f.genesis ≡ g.genesis → f.begun ≡ g.begun → f.book ≡ g.book → f ≡ g
+same_standing : (f g : ReplayState) → f.genesis ≡ g.genesis → f.begun ≡ g.begun → f.book ≡ g.book → f ≡ g
 same_standing f g p q r = λ i. record { genesis = p i; begun = q i; book = r i }
 
-follows_one : (f : Standing) (s : Stored) (g h : Standing) → Follows f s g → Follows f s h → g ≡ h
+follows_one : (f : ReplayState) (s : Stored) (g h : ReplayState) → RecordFollows f s g → RecordFollows f s h → g ≡ h
 follows_one f (stored.Asset name units) g h a b =
     let cap = same_amount a.0 b.0 (a.1 ∙ sym b.1) in
     let genesis : g.genesis ≡ h.genesis = a.4.added ∙ ap (λ c. let x : Founding = record f.genesis { assets = f.genesis.assets ++ record { name = name; cap = c } ∷ [] } in x) cap ∙ sym b.4.added in
@@ -55,7 +55,7 @@ no_records_left f (x ∷ xs) e = absurd (let h = e in cc)
 
 module _ (kind : LedgerKind) where
   -- one payload is the kind's
-  pub alone : (p : List ℕ) (f : Standing) → Reads kind (p ∷ []) f → (p ≡ payload_of (stored.Kind kind)) × (f ≡ start)
+  pub alone : (p : List ℕ) (f : ReplayState) → ReadsTo kind (p ∷ []) f → (p ≡ payload_of (stored.Kind kind)) × (f ≡ start)
   alone p f reads =
       let e = tail_is p (payload_of (stored.Kind kind)) [] (map payload_of (map asset_record f.genesis.assets ++ (map hold_record f.genesis.holds ++ map act_record reads.acts))) reads.ledger.list in
       let a = no_records asset_record f.genesis.assets (map hold_record f.genesis.holds ++ map act_record reads.acts) e.1 in
@@ -66,13 +66,13 @@ module _ (kind : LedgerKind) where
         same_standing f start genesis (reads.begun ∙ ap begun_by none) (subst (λ acts. Runs (founded f.genesis) acts f.book) none reads.ledger.runs ∙ ap founded genesis),
       )
 
-  one_before : (front : List (List ℕ)) (p : List ℕ) (f g : Standing) → ((a b : Standing) → Reads kind front a → Reads kind front b → a ≡ b) → Before kind front p f → Before kind front p g → f ≡ g
+  one_before : (front : List (List ℕ)) (p : List ℕ) (f g : ReplayState) → ((a b : ReplayState) → ReadsTo kind front a → ReadsTo kind front b → a ≡ b) → Before kind front p f → Before kind front p g → f ≡ g
   one_before front p f g one x y =
       let last = one_record x.last y.last x.formed y.formed (sym x.is ∙ y.is) in
       let from = one x.from y.from x.reads y.reads in
-      follows_one x.from x.last f g x.follows (subst (λ s. Follows x.from s g) (sym last) (subst (λ a. Follows a y.last g) (sym from) y.follows))
+      follows_one x.from x.last f g x.follows (subst (λ s. RecordFollows x.from s g) (sym last) (subst (λ a. RecordFollows a y.last g) (sym from) y.follows))
 
-  one_within : (n : ℕ) (payloads : List (List ℕ)) → length payloads ≤ n → (f g : Standing) → Reads kind payloads f → Reads kind payloads g → f ≡ g
+  one_within : (n : ℕ) (payloads : List (List ℕ)) → length payloads ≤ n → (f g : ReplayState) → ReadsTo kind payloads f → ReadsTo kind payloads g → f ≡ g
   one_within n [] short f g a b = absurd (let e = a.ledger.list in cc)
   one_within zero (p ∷ payloads) short f g a b = absurd (omega (arith, short))
   one_within (suc n) (p ∷ []) short f g a b = (alone p f a).1 ∙ sym (alone p g b).1
@@ -84,23 +84,23 @@ module _ (kind : LedgerKind) where
       no_front : (front : List (List ℕ)) → p ∷ front ≢ []
       no_front front e = cc
 
-      at : ((front : List (List ℕ)) → length (p ∷ front) ≤ n → (x y : Standing) → Reads kind (p ∷ front) x → Reads kind (p ∷ front) y → x ≡ y) → ((q ∷ payloads) ≡ []) ⊎ Last (q ∷ payloads) → f ≡ g
+      at : ((front : List (List ℕ)) → length (p ∷ front) ≤ n → (x y : ReplayState) → ReadsTo kind (p ∷ front) x → ReadsTo kind (p ∷ front) y → x ≡ y) → ((q ∷ payloads) ≡ []) ⊎ Last (q ∷ payloads) → f ≡ g
       at again (inl e) = none e
       at again (inr (front, last, e)) =
           let whole : p ∷ q ∷ payloads ≡ (p ∷ front) ++ last ∷ [] = ap (λ l. p ∷ l) e in
           let long = ap length e ∙ length-append front (last ∷ []) in
           one_before (p ∷ front) last f g (again front (omega (arith, short, long)))
-          (before kind (p ∷ front) last (no_front front) f (subst (λ l. Reads kind l f) whole a))
-          (before kind (p ∷ front) last (no_front front) g (subst (λ l. Reads kind l g) whole b))
+          (before kind (p ∷ front) last (no_front front) f (subst (λ l. ReadsTo kind l f) whole a))
+          (before kind (p ∷ front) last (no_front front) g (subst (λ l. ReadsTo kind l g) whole b))
 
-  pub one_reading : (payloads : List (List ℕ)) (f g : Standing) → Reads kind payloads f → Reads kind payloads g → f ≡ g
+  pub one_reading : (payloads : List (List ℕ)) (f g : ReplayState) → ReadsTo kind payloads f → ReadsTo kind payloads g → f ≡ g
   one_reading payloads f g a b = one_within (length payloads) payloads (omega arith) f g a b
 
-  pub reads_of : (payloads : List (List ℕ)) (genesis : Founding) (acts : List Operated) (book : Book) → IsLedger kind payloads genesis acts book → Reads kind payloads (record { genesis = genesis; begun = begun_by acts; book = book })
+  pub reads_of : (payloads : List (List ℕ)) (genesis : Founding) (acts : List Operated) (book : Book) → IsLedger kind payloads genesis acts book → ReadsTo kind payloads (record { genesis = genesis; begun = begun_by acts; book = book })
   reads_of payloads genesis acts book is = record { acts = acts; ledger = is; begun = refl }
 
   pub one_book : (payloads : List (List ℕ)) (a b : Book) → Leaves kind payloads a → Leaves kind payloads b → a ≡ b
-  one_book payloads a b (g, acts, is) (h, more, has) = ap (λ (f : Standing). f.book) (one_reading payloads _ _ (reads_of payloads g acts a is) (reads_of payloads h more b has))
+  one_book payloads a b (g, acts, is) (h, more, has) = ap (λ (f : ReplayState). f.book) (one_reading payloads _ _ (reads_of payloads g acts a is) (reads_of payloads h more b has))
 
   -- ---- a record more
 
@@ -132,14 +132,14 @@ module _ (kind : LedgerKind) where
     list = ap (λ l. l ++ payload_of (act_record a) ∷ []) is.list ∙ sym (more_acts kind genesis acts a);
   }
 
-  founding_reads : (payloads : List (List ℕ)) (g : Standing) (genesis : Founding) → IsLedger kind payloads genesis [] (founded genesis) → g.genesis ≡ genesis → g.begun ≡ false → g.book ≡ founded g.genesis → Reads kind payloads g
+  founding_reads : (payloads : List (List ℕ)) (g : ReplayState) (genesis : Founding) → IsLedger kind payloads genesis [] (founded genesis) → g.genesis ≡ genesis → g.begun ≡ false → g.book ≡ founded g.genesis → ReadsTo kind payloads g
   founding_reads payloads g genesis is e b c = record {
     acts = [];
     ledger = subst (λ (x : Book). IsLedger kind payloads g.genesis [] x) (sym c) (subst (λ (x : Founding). IsLedger kind payloads x [] (founded x)) (sym e) is);
     begun = b;
   }
 
-  pub read_on : (payloads : List (List ℕ)) (f : Standing) (s : Stored) (g : Standing) → Reads kind payloads f → Follows f s g → Reads kind (payloads ++ payload_of s ∷ []) g
+  pub read_on : (payloads : List (List ℕ)) (f : ReplayState) (s : Stored) (g : ReplayState) → ReadsTo kind payloads f → RecordFollows f s g → ReadsTo kind (payloads ++ payload_of s ∷ []) g
   read_on payloads f (stored.Asset name units) g reads (cap, is, b, h, adds, begun, book) =
       let a : Asset = record { name = name; cap = cap } in
       let adds' : AddsAsset f.genesis a (record { assets = f.genesis.assets ++ a ∷ []; holds = f.genesis.holds }) = subst (AddsAsset f.genesis a) adds.added adds in
@@ -163,12 +163,12 @@ module _ (kind : LedgerKind) where
 
   -- ---- a record that may not stand there
 
-  pub not_following : (front : List (List ℕ)) (f : Standing) (s : Stored) → front ≢ [] → Reads kind front f → IsFormed s → ((g : Standing) → Follows f s g → ⊥) → IsJournal kind (front ++ payload_of s ∷ []) → ⊥
+  pub not_following : (front : List (List ℕ)) (f : ReplayState) (s : Stored) → front ≢ [] → ReadsTo kind front f → IsFormed s → ((g : ReplayState) → RecordFollows f s g → ⊥) → IsJournal kind (front ++ payload_of s ∷ []) → ⊥
   not_following front f s some reads formed never (book, (genesis, acts, is)) =
       let x = before kind front (payload_of s) some _ (reads_of (front ++ payload_of s ∷ []) genesis acts book is) in
       let from = one_reading front x.from f x.reads reads in
       let last = one_record x.last s x.formed formed (sym x.is) in
-      never _ (subst (λ a. Follows f a (record { genesis = genesis; begun = begun_by acts; book = book })) last (subst (λ a. Follows a x.last (record { genesis = genesis; begun = begun_by acts; book = book })) from x.follows))
+      never _ (subst (λ a. RecordFollows f a (record { genesis = genesis; begun = begun_by acts; book = book })) last (subst (λ a. RecordFollows a x.last (record { genesis = genesis; begun = begun_by acts; book = book })) from x.follows))
 
   pub not_decoded : (front : List (List ℕ)) (p : List ℕ) → ((s : Stored) → IsFormed s → p ≢ payload_of s) → IsJournal kind (front ++ p ∷ []) → ⊥
   not_decoded [] p never (book, (genesis, acts, is)) = never (stored.Kind kind) tt (alone p _ (reads_of (p ∷ []) genesis acts book is)).0

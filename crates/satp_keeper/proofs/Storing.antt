@@ -29,10 +29,6 @@ act_fits op session terms = payloads_fit (stored.Act op session terms) tt
 pub still_stops : (op : LedgerOp) (session : SessionId) (terms : Terms) (held : Held) (told : Option Told) → Keeps told → AppendStops (payload_of (stored.Act op session terms)) held told told
 still_stops op session terms held told keeps = append_stops (payload_of (stored.Act op session terms)) held (act_fits op session terms) told told keeps (adds_none (payload_of (stored.Act op session terms)) held (act_fits op session terms) told)
 
-pub still_rests : (area : Area) (before behind : List (List ℕ)) (told : Option Told) → behind ≡ before → RestsStill area before behind told told
-still_rests area before behind None e = tt
-still_rests area before behind (Some t) e = λ rests. subst (RestsAt t.trail area) (sym e) rests
-
 -- an append that has its memory fails by the disk alone
 pub append_failed : (q : List ℕ) (old new : Held) (told_old told_new : Option Told) (fault : JournalFault) → old.broken ≡ false → (fault ≡ journal.Memory → ⊥) → AppendAnswers q old new told_old told_new (Err fault)
     → (fault ≡ journal.Disk) × (new ≡ record old { broken = true }) × FailsAmong (append_calls old q) told_old told_new

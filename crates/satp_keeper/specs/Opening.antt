@@ -8,7 +8,7 @@ use Rattle.satp_journal.specs.State.{JournalState}
 use Rattle.satp_journal.specs.declared.fault.JournalFault.{JournalFault}
 use Rattle.satp_journal.specs.declared.fault.JournalFault.TheVariants as journal
 use Rattle.satp_keeper.specs.Books.{IsJournal, IsFirstRefused}
-use Rattle.satp_keeper.specs.Replaying.{NoRecordAt, Reads, Standing}
+use Rattle.satp_keeper.specs.Replaying.{NoRecordAt, ReadsTo, ReplayState}
 use Rattle.satp_keeper.specs.declared.fault.KeeperFault.{KeeperFault}
 use Rattle.satp_keeper.specs.declared.fault.KeeperFault.TheVariants.{OutOfOrder, Empty, Damaged, Record, Disk, Broken, Memory}
 
@@ -19,9 +19,9 @@ IsRecordFault payloads index Memory = Unit {0}
 IsRecordFault payloads index _ = ⊥
 
 -- A record goes on from what those before it say, or with it they are no ledger's journal.
-abbrev pub StepAnswers : List (List ℕ) → ℕ → Standing → Standing → Result (Unit {0}) KeeperFault → Type 0
-StepAnswers payloads index f g (Ok done) = (kind : LedgerKind) → Reads kind (take index payloads) f → Reads kind (take (index + 1) payloads) g
-StepAnswers payloads index f g (Err (Record at)) = (at ≡ index) × ((kind : LedgerKind) → Reads kind (take index payloads) f → IsJournal kind (take (index + 1) payloads) → ⊥)
+abbrev pub StepAnswers : List (List ℕ) → ℕ → ReplayState → ReplayState → Result (Unit {0}) KeeperFault → Type 0
+StepAnswers payloads index f g (Ok done) = (kind : LedgerKind) → ReadsTo kind (take index payloads) f → ReadsTo kind (take (index + 1) payloads) g
+StepAnswers payloads index f g (Err (Record at)) = (at ≡ index) × ((kind : LedgerKind) → ReadsTo kind (take index payloads) f → IsJournal kind (take (index + 1) payloads) → ⊥)
 StepAnswers payloads index f g (Err Memory) = Unit {0}
 StepAnswers payloads index f g (Err _) = ⊥
 

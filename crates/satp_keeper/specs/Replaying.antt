@@ -18,35 +18,35 @@ use Rattle.satp_records.specs.declared.stored.Stored.TheVariants as stored
 use Rattle.satp_keeper.specs.Books.{IsLedger, Operated}
 
 -- what the records so far say: the genesis, whether an operation stands behind it, and the book
-pub record Standing : Type 0 where
+pub record ReplayState : Type 0 where
   pub genesis : Founding
   pub begun : Bool
   pub book : Book
 
-abbrev pub standing_of : {C : Type 0} → (C → Book) → Founding → Option C → Standing
-standing_of book genesis None = record { genesis = genesis; begun = false; book = founded genesis }
-standing_of book genesis (Some core) = record { genesis = genesis; begun = true; book = book core }
+abbrev pub replay_state : {C : Type 0} → (C → Book) → Founding → Option C → ReplayState
+replay_state book genesis None = record { genesis = genesis; begun = false; book = founded genesis }
+replay_state book genesis (Some core) = record { genesis = genesis; begun = true; book = book core }
 
 -- nothing but the kind of the ledger was said
-abbrev pub start : Standing
+abbrev pub start : ReplayState
 start = let g : Founding = record { assets = []; holds = [] } in record { genesis = g; begun = false; book = founded g }
 
 -- An asset stands before all holdings and operations, a holding before all operations; the genesis takes each of them, and the rule answers each operation with Done.
-abbrev pub Follows : Standing → Stored → Standing → Type 0
-Follows f (stored.Asset name units) g =
+abbrev pub RecordFollows : ReplayState → Stored → ReplayState → Type 0
+RecordFollows f (stored.Asset name units) g =
     (cap : Amount) × (cap.number ≡ units) × (f.begun ≡ false) × (f.genesis.holds ≡ []) × AddsAsset f.genesis (record { name = name; cap = cap }) g.genesis
     × (g.begun ≡ false) × (g.book ≡ founded g.genesis)
-Follows f (stored.Hold asset owner amount) g =
+RecordFollows f (stored.Hold asset owner amount) g =
     (f.begun ≡ false) × AddsHold f.genesis (record { asset = asset; owner = owner; amount = amount }) g.genesis × (g.begun ≡ false) × (g.book ≡ founded g.genesis)
-Follows f (stored.Act op session terms) g = LedgerRule f.book op session terms Done g.book × (g.genesis ≡ f.genesis) × (g.begun ≡ true)
-Follows f (stored.Kind kind) g = ⊥
-Follows f (stored.Setup setup) g = ⊥
-Follows f (stored.Session session rec text) g = ⊥
+RecordFollows f (stored.Act op session terms) g = LedgerRule f.book op session terms Done g.book × (g.genesis ≡ f.genesis) × (g.begun ≡ true)
+RecordFollows f (stored.Kind kind) g = ⊥
+RecordFollows f (stored.Setup setup) g = ⊥
+RecordFollows f (stored.Session session rec text) g = ⊥
 
 -- whether a record follows
-abbrev pub FollowAnswers : Standing → Stored → Standing → Result Bool Memory → Type 0
-FollowAnswers f s g (Ok true) = Follows f s g
-FollowAnswers f s g (Ok false) = (h : Standing) → Follows f s h → ⊥
+abbrev pub FollowAnswers : ReplayState → Stored → ReplayState → Result Bool Memory → Type 0
+FollowAnswers f s g (Ok true) = RecordFollows f s g
+FollowAnswers f s g (Ok false) = (h : ReplayState) → RecordFollows f s h → ⊥
 FollowAnswers f s g (Err memory) = Unit {0}
 
 -- whether the rule answers an operation with Done
@@ -61,7 +61,7 @@ begun_by [] = false
 begun_by (a ∷ acts) = true
 
 -- these payloads are a ledger's journal that says so
-pub record Reads (kind : LedgerKind) (payloads : List (List ℕ)) (f : Standing) : Type 0 where
+pub record ReadsTo (kind : LedgerKind) (payloads : List (List ℕ)) (f : ReplayState) : Type 0 where
   pub acts : List Operated
   pub ledger : IsLedger kind payloads f.genesis acts f.book
   pub begun : f.begun ≡ begun_by acts

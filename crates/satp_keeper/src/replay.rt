@@ -3,7 +3,7 @@
 ghost use Rattle.std.specs.Prelude.{◌≡◌, ◌≤◌, ◌<◌, ◌↔◌, true, length, take, IfOk, IsTrue, MatchResult};
 ghost use Rattle.satp_records.specs.declared.stored.Stored.TheVariants as stored;
 ghost use Rattle.satp_keeper.specs.Books.{Leaves};
-ghost use Rattle.satp_keeper.specs.Replaying.{DoneAnswers, FollowAnswers, IsRecordAt, Reads, standing_of, start};
+ghost use Rattle.satp_keeper.specs.Replaying.{DoneAnswers, FollowAnswers, IsRecordAt, ReadsTo, replay_state, start};
 ghost use Rattle.satp_keeper.specs.Opening.{IsRecordFault, IsReplayFault, StepAnswers};
 
 use crate::fault::KeeperFault;
@@ -40,7 +40,7 @@ fn is_done<C: LedgerCore>(
 
 impl<C: LedgerCore> Replay<C> {
     fn add_asset(&mut self, name: Name, cap: u64) -> Result<bool, Memory>
-        ensures { FollowAnswers (standing_of C.book self.old.genesis self.old.core) (stored.Asset name cap) (standing_of C.book self.new.genesis self.new.core) result }
+        ensures { FollowAnswers (replay_state C.book self.old.genesis self.old.core) (stored.Asset name cap) (replay_state C.book self.new.genesis self.new.core) result }
     {
         let Some(cap) = Amount::from(cap) else {
             return Ok(false);
@@ -56,7 +56,7 @@ impl<C: LedgerCore> Replay<C> {
     }
 
     fn add_hold(&mut self, asset: Name, owner: Name, amount: Amount) -> Result<bool, Memory>
-        ensures { FollowAnswers (standing_of C.book self.old.genesis self.old.core) (stored.Hold asset owner amount) (standing_of C.book self.new.genesis self.new.core) result }
+        ensures { FollowAnswers (replay_state C.book self.old.genesis self.old.core) (stored.Hold asset owner amount) (replay_state C.book self.new.genesis self.new.core) result }
     {
         if self.core.is_some() {
             return Ok(false);
@@ -75,7 +75,7 @@ impl<C: LedgerCore> Replay<C> {
         session: SessionId,
         terms: &Terms,
     ) -> Result<bool, Memory>
-        ensures { FollowAnswers (standing_of C.book self.old.genesis self.old.core) (stored.Act op session terms.now) (standing_of C.book self.new.genesis self.new.core) result }
+        ensures { FollowAnswers (replay_state C.book self.old.genesis self.old.core) (stored.Act op session terms.now) (replay_state C.book self.new.genesis self.new.core) result }
     {
         match self.core.take() {
             Some(core) => self.go_on(core, op, session, terms),
@@ -94,7 +94,7 @@ impl<C: LedgerCore> Replay<C> {
         session: SessionId,
         terms: &Terms,
     ) -> Result<bool, Memory>
-        ensures { FollowAnswers (record { genesis = self.old.genesis; begun = true; book = C.book core }) (stored.Act op session terms.now) (standing_of C.book self.new.genesis self.new.core) result }
+        ensures { FollowAnswers (record { genesis = self.old.genesis; begun = true; book = C.book core }) (stored.Act op session terms.now) (replay_state C.book self.new.genesis self.new.core) result }
     {
         match is_done(&mut core, op, session, terms) {
             Ok(done) => {
@@ -107,7 +107,7 @@ impl<C: LedgerCore> Replay<C> {
 
     /// Whether a record may stand behind those so far.
     fn follows(&mut self, alloc: Global, stored: &Stored) -> Result<bool, Memory>
-        ensures { FollowAnswers (standing_of C.book self.old.genesis self.old.core) stored.now (standing_of C.book self.new.genesis self.new.core) result }
+        ensures { FollowAnswers (replay_state C.book self.old.genesis self.old.core) stored.now (replay_state C.book self.new.genesis self.new.core) result }
     {
         match stored {
             Stored::Asset { name, cap } => self.add_asset(*name, *cap),
@@ -124,7 +124,7 @@ impl<C: LedgerCore> Replay<C> {
     /// Goes on by the record of an index.
     fn step(&mut self, alloc: Global, journal: &Journal, index: usize) -> Result<(), KeeperFault>
         requires { index < length journal.now.held.payloads }
-        ensures { StepAnswers journal.now.held.payloads index (standing_of C.book self.old.genesis self.old.core) (standing_of C.book self.new.genesis self.new.core) result }
+        ensures { StepAnswers journal.now.held.payloads index (replay_state C.book self.old.genesis self.old.core) (replay_state C.book self.new.genesis self.new.core) result }
     {
         let stored = match record_at(alloc, journal, index) {
             Ok(stored) => stored,
@@ -138,7 +138,7 @@ impl<C: LedgerCore> Replay<C> {
     }
 
     fn finish(self, alloc: Global) -> Result<C, Memory>
-        ensures { IfOk result (λ core. C.book core ≡ (standing_of C.book self.genesis self.core).book) }
+        ensures { IfOk result (λ core. C.book core ≡ (replay_state C.book self.genesis self.core).book) }
     {
         let Replay { genesis, core } = self;
         match core {
@@ -165,7 +165,7 @@ fn record_at(alloc: Global, journal: &Journal, index: usize) -> Result<Stored, K
 
 /// The first record is that of the kind of ledger.
 fn check_kind(alloc: Global, journal: &Journal, kind: LedgerKind) -> Result<(), KeeperFault>
-    ensures { MatchResult result (λ done. (1 ≤ length journal.now.held.payloads) × Reads kind (take 1 journal.now.held.payloads) start) (IsReplayFault kind journal.now.held.payloads) }
+    ensures { MatchResult result (λ done. (1 ≤ length journal.now.held.payloads) × ReadsTo kind (take 1 journal.now.held.payloads) start) (IsReplayFault kind journal.now.held.payloads) }
 {
     if journal.count() == 0 {
         return Err(KeeperFault::Empty);

@@ -13,4 +13,4 @@ returns-in-Some c = λ setup xs h.
 
 pub returns-in_ok-nothing_known-in-None : goal.returns-in_ok-nothing_known-in-None
 returns-in_ok-nothing_known-in-None c = λ setup xs h.
-    ap (λ t. Gives (Some t)) (c.in_ok-nothing_known-in-None.ensures setup xs h) ∙ sym (ap (asked_decision (party_of setup) c.args.session c.args.length) (c.in-None.ensures.found setup xs h))
+    ap (λ t. Gives (Some t)) (c.in_ok-nothing_known-in-None.ensures (party_of setup) (ap party_of (sym h.setup_is))) ∙ sym (ap (asked_decision (party_of setup) c.args.session c.args.length) (c.in-None.ensures.found setup xs h))

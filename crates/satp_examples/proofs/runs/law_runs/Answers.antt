@@ -27,7 +27,7 @@ use Rattle.satp_peer_commands.specs.Driving.{RecoverWorks, ResumeWorks, StartWor
 use Rattle.satp_peer_commands.specs.Serving.{ServeWorks}
 use Rattle.satp_words.specs.Commands.{IsListed}
 use Rattle.satp_words.specs.declared.command.Command.{Command}
-use Rattle.satp_words.specs.declared.command.Command.TheVariants.{Answer, Check, Init, Serve, Start, Resume, Recover, Abort, Show}
+use Rattle.satp_words.specs.declared.command.Command.TheVariants.{Answer, Check, Init, Serve, Start, Resume, Recover, Abort, Show, Replay}
 use Rattle.satp_examples.specs.Commands.{out}
 use Rattle.satp_examples.specs.Messages.{proposal_text}
 use Rattle.satp_examples.specs.Replies.{proposal, receipt}
@@ -74,6 +74,7 @@ refuses_no_words (Serve dir listen connections) a h = at_gateway dir (ServeWorks
 refuses_no_words (Start dir number amount asset from to) a h = at_gateway dir (StartWorks number (terms_of amount asset from to)) start a (λ g inside worked. of_drive _ g _ a worked.3) h
 refuses_no_words (Resume dir session) a h = at_gateway dir (ResumeWorks session) start a (λ g inside worked. of_drive _ g _ a worked) h
 refuses_no_words (Recover dir session) a h = at_gateway dir (RecoverWorks session) start a (λ g inside worked. of_drive _ g _ a worked) h
+refuses_no_words Replay a h = h.0
 
 answers_beta : Does (Answer beta) receipt_line untouched
 answers_beta = (
@@ -188,6 +189,7 @@ none_listed (Resume dir session) h = let bad = h.is_command.first.1 in absurd cc
 none_listed (Recover dir session) h = let bad = h.is_command.first.1 in absurd cc
 none_listed (Abort dir session) h = let bad = h.is_command.first.1 in absurd cc
 none_listed (Show dir session) h = let bad = h.is_command.first.1 in absurd cc
+none_listed Replay h = let bad = h.is_command.first.1 in absurd cc
 
 done_without_words : (a : OutsideState) (said : SinkState) → Runs [] a said 0 → ⊥
 done_without_words a said (outcome, end, e, r) =

@@ -1,5 +1,5 @@
-use Rattle.satp_engine.proofs.MessageLemmas.{ok-more, signed-is}
-use Rattle.satp_engine.proofs.message.signed.Goals as goal
+use Rattle.satp_messages.proofs.MessageLemmas.{ok-more, signed-is}
+use Rattle.satp_messages.proofs.recovery.signed.Goals as goal
 
 pub returns : goal.returns
 returns c =

@@ -1,6 +1,6 @@
 use Rattle.satp_chain.specs.Chained.{texts_in}
-use Rattle.satp_engine.proofs.MessageLemmas.{tale-long, update-formed, update-is}
-use Rattle.satp_engine.proofs.message.update.Goals as goal
+use Rattle.satp_messages.proofs.MessageLemmas.{tale-long, update-formed, update-is}
+use Rattle.satp_messages.proofs.recovery.update.Goals as goal
 
 pub signed-requires : goal.signed-requires
 signed-requires c =

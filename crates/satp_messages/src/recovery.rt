@@ -1,4 +1,4 @@
-ghost use Rattle.std.specs.Prelude.{◌≡◌, ◌+◌, ◌-◌, ◌≤◌, IfOk, Some, drop, length};
+ghost use Rattle.std.specs.Prelude.{◌≡◌, ◌+◌, ◌-◌, ◌≤◌, [], IfOk, Some, drop, length};
 ghost use Rattle.satp_base.specs.Forms.{IsBody};
 ghost use Rattle.satp_base.specs.Signatures.{own};
 ghost use Rattle.satp_chain.specs.Chained.{IsChain, texts_in};
@@ -15,12 +15,7 @@ use satp_log::Log;
 use std::alloc::Global;
 
 /// What the side that starts a recovery round says of its chain.
-pub(crate) fn recover(
-    alloc: Global,
-    log: &Log,
-    session: SessionId,
-    chain: &Chain,
-) -> Result<Text, Memory>
+pub fn recover(alloc: Global, log: &Log, session: SessionId, chain: &Chain) -> Result<Text, Memory>
     ensures { (p : Party) → p ≡ party_of log.now.setup → IfOk result (λ text. text ≡ recover_text p session (texts_in chain.now)) }
 {
     let head = chain.head();
@@ -33,7 +28,7 @@ pub(crate) fn recover(
 
 /// What a side that is asked for its chain answers to a peer whose chain has `given` messages: how long its own chain is,
 /// and the texts after those of the peer, of which an update carries two at most.
-pub(crate) fn update(
+pub fn update(
     alloc: Global,
     log: &Log,
     session: SessionId,
@@ -52,13 +47,19 @@ pub(crate) fn update(
     signed(alloc, log, session, body)
 }
 
+/// What a side that is asked for its chain answers where no record of it names the session: a chain of no messages.
+pub fn nothing_known(alloc: Global, log: &Log, session: SessionId) -> Result<Text, Memory>
+    ensures { (p : Party) → p ≡ party_of log.now.setup → IfOk result (λ text. text ≡ update_text p session 0 []) }
+{
+    let body = Body::Update {
+        length: 0,
+        entries: Texts::new(alloc),
+    };
+    signed(alloc, log, session, body)
+}
+
 /// What the side that started a recovery round says at its end, when both chains are one.
-pub(crate) fn success(
-    alloc: Global,
-    log: &Log,
-    session: SessionId,
-    chain: &Chain,
-) -> Result<Text, Memory>
+pub fn success(alloc: Global, log: &Log, session: SessionId, chain: &Chain) -> Result<Text, Memory>
     ensures { (p : Party) → p ≡ party_of log.now.setup → IfOk result (λ text. text ≡ success_text p session (texts_in chain.now)) }
 {
     let head = chain.head();

@@ -1,7 +1,7 @@
 use Rattle.std.proofs.Common.{◌∙◌, ◌+◌, ◌++◌, ap, drop}
 use Rattle.satp_chain.specs.Chained.{texts_in}
-use Rattle.satp_engine.proofs.MessageLemmas.{one-after}
-use Rattle.satp_engine.proofs.message.texts_after.Goals as goal
+use Rattle.satp_messages.proofs.MessageLemmas.{one-after}
+use Rattle.satp_messages.proofs.recovery.texts_after.Goals as goal
 
 pub loop-index-preserved : goal.loop-index-preserved
 loop-index-preserved c =

@@ -3,6 +3,7 @@ use Rattle.std.specs.Prelude.{◌≡◌, ◌⊎◌, ℕ, List, Some, None}
 use Rattle.satp_app.specs.Answer.{answer_says}
 use Rattle.satp_app.specs.Check.{check_says, signed_says}
 use Rattle.satp_app.specs.Init.{InitRule, order, setup_of}
+use Rattle.satp_app.specs.Replay.{journal_form, replay_says}
 use Rattle.satp_base.specs.declared.amount.Amount.{Amount}
 use Rattle.satp_base.specs.declared.message.Terms.{Terms}
 use Rattle.satp_base.specs.declared.name.Name.{Name}
@@ -19,7 +20,7 @@ use Rattle.satp_peer_commands.specs.Driving.{RecoverWorks, ResumeWorks, StartWor
 use Rattle.satp_peer_commands.specs.Serving.{ServeWorks}
 use Rattle.satp_words.specs.Commands.{IsListed, NotListed}
 use Rattle.satp_words.specs.declared.command.Command.{Command}
-use Rattle.satp_words.specs.declared.command.Command.TheVariants.{Answer, Check, Init, Abort, Show, Serve, Start, Resume, Recover}
+use Rattle.satp_words.specs.declared.command.Command.TheVariants.{Answer, Check, Init, Abort, Show, Serve, Start, Resume, Recover, Replay}
 
 -- neither the site nor the wire was touched
 abbrev pub LeavesPlace : OutsideState → OutsideState → Type 0
@@ -40,6 +41,7 @@ CommandRule (Serve dir listen connections) b a outcome = AtGateway dir (ServeWor
 CommandRule (Start dir number amount asset from to) b a outcome = AtGateway dir (StartWorks number (terms_of amount asset from to)) b a outcome
 CommandRule (Resume dir session) b a outcome = AtGateway dir (ResumeWorks session) b a outcome
 CommandRule (Recover dir session) b a outcome = AtGateway dir (RecoverWorks session) b a outcome
+CommandRule Replay b a outcome = StreamRule journal_form replay_says b.streams a.streams outcome × LeavesPlace b a
 
 -- the command that the words list ends so
 abbrev pub Listed : List (List ℕ) → OutsideState → OutsideState → Outcome → Type 0

@@ -1,5 +1,6 @@
 pub mod Answer
 pub mod Check
+pub mod Replay
 pub mod Init
 pub mod Commands
 pub mod Arguments

@@ -1,10 +1,11 @@
--- Where all is told, a command that reads a text ends in one way, and so does one that sets a gateway up.
+-- Where all is told, a command that reads a text or a journal ends in one way, and so does one that sets a gateway up.
 use Rattle.std.specs.Prelude.{◌≡◌, ◌≢◌, ℕ, ◌<◌, ◌≤◌, ◌^◌, ◌-◌, List, length, Some}
 use Rattle.satp_base.specs.Calls.{Told}
 use Rattle.satp_base.specs.declared.name.Name.{Name}
 use Rattle.satp_app.specs.Answer.{answer_says}
 use Rattle.satp_app.specs.Check.{check_says, signed_says}
 use Rattle.satp_app.specs.Init.{InitRule, Order}
+use Rattle.satp_app.specs.Replay.{journal_form, replay_says}
 use Rattle.satp_outcome.specs.Outside.{OutsideState, StreamsState}
 use Rattle.satp_outcome.specs.Streams.{Form, StreamRule}
 use Rattle.satp_outcome.specs.Texts.{text_form}
@@ -36,6 +37,9 @@ OneCheck = OneEnd text_form check_says
 -- a check under a key, where a text has one reply
 abbrev pub OneSignedCheck : Type 0
 OneSignedCheck = (key : List ℕ) → OneReply text_form (signed_says key) → OneEnd text_form (signed_says key)
+
+abbrev pub OneReplay : Type 0
+OneReplay = OneEnd journal_form replay_says
 
 -- input and site are told, and neither count of faults stands at its end
 pub record TellsAll (b : OutsideState) : Type 0 where

@@ -26,10 +26,12 @@ pub fn run_arguments<S: Site, W: Wire, I: Source, K: Sink, E: Sink>(
     requires over { I.is_over input.old ≡ false }
     requires out_failed { K.has_failed out.old ≡ false }
     requires err_failed { E.has_failed err.old ≡ false }
-    ensures { ArgumentsRule arguments
+    ensures rule { ArgumentsRule arguments
         (outside (streams (source I.faults I.left I.is_over input.old) (sink K.faults K.taken K.has_failed out.old)) (site_state S.faults S.told S.book site.old) (wire_state W.faults W.told W.listens W.is_open wire.old))
         (outside (streams (source I.faults I.left I.is_over input.new) (sink K.faults K.taken K.has_failed out.new)) (site_state S.faults S.told S.book site.new) (wire_state W.faults W.told W.listens W.is_open wire.new))
         (sink E.faults E.taken E.has_failed err.old) (sink E.faults E.taken E.has_failed err.new) result }
+    ensures site_beside { S.beside site.old site.new }
+    ensures wire_beside { W.beside wire.old wire.new }
 {
     match given(alloc, arguments) {
         Ok(words) => run(alloc, &words, site, wire, input, out, err),

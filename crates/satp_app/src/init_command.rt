@@ -25,10 +25,11 @@ pub(crate) fn init<S: Site, I: Source, K: Sink>(
     requires peer { setup.now.name ≢ setup.now.peer }
     requires over { I.is_over input.old ≡ false }
     requires failed { K.has_failed out.old ≡ false }
-    ensures { (wire : WireState) → InitRule (order dir.now setup.now kind)
+    ensures rule { (wire : WireState) → InitRule (order dir.now setup.now kind)
         (outside (streams (source I.faults I.left I.is_over input.old) (sink K.faults K.taken K.has_failed out.old)) (site_state S.faults S.told S.book site.old) wire)
         (outside (streams (source I.faults I.left I.is_over input.new) (sink K.faults K.taken K.has_failed out.new)) (site_state S.faults S.told S.book site.new) wire)
         result }
+    ensures beside { S.beside site.old site.new }
 {
     match site.enter(dir.bytes()) {
         Ok(()) => {}

@@ -9,6 +9,7 @@ mod arguments;
 mod check_command;
 mod init_command;
 mod laws;
+mod replay_command;
 mod top;
 
 pub use arguments::run_arguments;

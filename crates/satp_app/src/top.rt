@@ -6,6 +6,7 @@ ghost use Rattle.std.specs.Prelude.{◌≡◌, ℕ, false, List};
 use crate::answer_command::answer;
 use crate::check_command::{check, check_signed};
 use crate::init_command::init;
+use crate::replay_command::replay;
 use satp_base::{Sink, Site, Source, Terms, Texts, Wire};
 use satp_gateway_commands::{abort, show};
 use satp_jws::Key;
@@ -22,7 +23,8 @@ use std::alloc::Global;
 /// `init` enters a directory of the site and sets a gateway up there, with the genesis on the input. `show`, `abort`, `serve`, `start`, `resume` and `recover` enter one and open the gateway there.
 /// Then `show` prints a session and `abort` turns one back; `serve` listens, and hands what its peers post to the gateway; the last three drive a session over one connection to the gateway's peer, and print how it ended.
 /// `answer` prints the receipt of the transfer proposal on the input, `check` the kind and length of the canonical text on it, with a key those of a compact JWS of one;
-/// they make no call on the site, and drop one final newline of the input. Only `serve` and the drives make a call on the wire.
+/// they drop one final newline of the input. `replay` prints the sessions of the journal whose bytes are the input, and how many records it has.
+/// These three make no call on the site. Only `serve` and the drives make a call on the wire.
 ///
 /// Of the statuses the first that holds counts:
 ///
@@ -31,12 +33,13 @@ use std::alloc::Global;
 /// - 9: the journal is damaged, or one of its records may not stand there.
 /// - 13: no gateway was set up there; for `init`, one was.
 /// - 11: a read of the input failed.
-/// - 5: the input isn't what the command reads, or is longer than 8,192 bytes, for `init` 65,536. It is read to
-///   its end, or to the first byte past the longest input.
+/// - 5: the input isn't what the command reads, or is longer than 8,192 bytes, for `init` 65,536, for `replay` 134,217,728.
+///   It is read to its end, or to the first byte past the longest input.
 /// - 3: no record of the gateway names the session.
 /// - 4: `answer`: the proposal's receiver isn't the gateway named. `abort`: a message of the session decides it already. `start`: a record names the session, or as many were started as may be.
 /// - 8: a call of the command's work on the site failed. 6: a call on the wire failed. 7: the peer's answer ends the drive.
 /// - 11: a write of the output failed; what it took is a prefix of the lines. What was done stands.
+///   A `serve` whose first line isn't printed serves all the same, and ends so in place of 8 and 6.
 /// - 12: the session is rolled back. 0: all else was done.
 ///
 /// 10, want of memory, may come at any point. Every status but 0 and 12 has a line on `err`, whose failures are
@@ -54,10 +57,12 @@ pub fn run<S: Site, W: Wire, I: Source, K: Sink, E: Sink>(
     requires over { I.is_over input.old ≡ false }
     requires out_failed { K.has_failed out.old ≡ false }
     requires err_failed { E.has_failed err.old ≡ false }
-    ensures { RunRule words.now
+    ensures rule { RunRule words.now
         (outside (streams (source I.faults I.left I.is_over input.old) (sink K.faults K.taken K.has_failed out.old)) (site_state S.faults S.told S.book site.old) (wire_state W.faults W.told W.listens W.is_open wire.old))
         (outside (streams (source I.faults I.left I.is_over input.new) (sink K.faults K.taken K.has_failed out.new)) (site_state S.faults S.told S.book site.new) (wire_state W.faults W.told W.listens W.is_open wire.new))
         (sink E.faults E.taken E.has_failed err.old) (sink E.faults E.taken E.has_failed err.new) result }
+    ensures site_beside { S.beside site.old site.new }
+    ensures wire_beside { W.beside wire.old wire.new }
 {
     let outcome = obey(alloc, words, site, wire, input, out);
     let _ = report(err, outcome);
@@ -76,10 +81,12 @@ fn obey<S: Site, W: Wire, I: Source, K: Sink>(
     requires closed { W.is_open wire.old ≡ false }
     requires over { I.is_over input.old ≡ false }
     requires failed { K.has_failed out.old ≡ false }
-    ensures { EndRule words.now
+    ensures rule { EndRule words.now
         (outside (streams (source I.faults I.left I.is_over input.old) (sink K.faults K.taken K.has_failed out.old)) (site_state S.faults S.told S.book site.old) (wire_state W.faults W.told W.listens W.is_open wire.old))
         (outside (streams (source I.faults I.left I.is_over input.new) (sink K.faults K.taken K.has_failed out.new)) (site_state S.faults S.told S.book site.new) (wire_state W.faults W.told W.listens W.is_open wire.new))
         result }
+    ensures site_beside { S.beside site.old site.new }
+    ensures wire_beside { W.beside wire.old wire.new }
 {
     match read(alloc, words) {
         Ok(command) => perform(alloc, words, command, site, wire, input, out),
@@ -102,10 +109,12 @@ fn perform<S: Site, W: Wire, I: Source, K: Sink>(
     requires closed { W.is_open wire.old ≡ false }
     requires over { I.is_over input.old ≡ false }
     requires failed { K.has_failed out.old ≡ false }
-    ensures { CommandRule command
+    ensures rule { CommandRule command
         (outside (streams (source I.faults I.left I.is_over input.old) (sink K.faults K.taken K.has_failed out.old)) (site_state S.faults S.told S.book site.old) (wire_state W.faults W.told W.listens W.is_open wire.old))
         (outside (streams (source I.faults I.left I.is_over input.new) (sink K.faults K.taken K.has_failed out.new)) (site_state S.faults S.told S.book site.new) (wire_state W.faults W.told W.listens W.is_open wire.new))
         result }
+    ensures site_beside { S.beside site.old site.new }
+    ensures wire_beside { W.beside wire.old wire.new }
 {
     match command {
         Command::Answer { name } => answer(alloc, name, input, out),
@@ -155,5 +164,6 @@ fn perform<S: Site, W: Wire, I: Source, K: Sink>(
         }
         Command::Resume { dir, session } => resume(alloc, &dir, session, site, wire, out),
         Command::Recover { dir, session } => recover(alloc, &dir, session, site, wire, out),
+        Command::Replay => replay(alloc, input, out),
     }
 }

@@ -5,7 +5,7 @@ use std::alloc::Global;
 const REFUSED: &[u8] = b"refused";
 
 /// Words, parted by one space, and the command that they list with its values.
-const ROWS: [(&[u8], &[u8]); 57] = [
+const ROWS: [(&[u8], &[u8]); 60] = [
     (b"answer beta", b"answer beta"),
     (b"answer", REFUSED),
     (b"answer Beta", REFUSED),
@@ -160,7 +160,10 @@ const ROWS: [(&[u8], &[u8]); 57] = [
     (b"resume --dir d --session alpha", REFUSED),
     (b"recover --dir d", REFUSED),
     (b"abort --session beta.7", REFUSED),
-    (b"replay", REFUSED),
+    (b"replay", b"replay"),
+    (b"replay --", b"replay"),
+    (b"replay journal-a", REFUSED),
+    (b"replay --dir d", REFUSED),
     (b"drill --seed 7", REFUSED),
 ];
 
@@ -272,6 +275,7 @@ fn put_command(text: &mut Text, command: &Command) {
         Command::Recover { dir, session } => put_session(text, b"recover", dir, session),
         Command::Abort { dir, session } => put_session(text, b"abort", dir, session),
         Command::Show { dir, session } => put_session(text, b"show", dir, session),
+        Command::Replay => put(text, b"replay"),
     }
 }
 

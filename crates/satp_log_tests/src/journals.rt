@@ -93,7 +93,7 @@ fn is_plain(kind: Kind) -> bool
 }
 
 /// Adds a text after its length in two bytes.
-fn put_text(payload: &mut Text, text: &[u8]) -> bool {
+pub(crate) fn put_text(payload: &mut Text, text: &[u8]) -> bool {
     match u16::try_from(text.len()) {
         Ok(length) => payload.append(&length.to_be_bytes()).is_ok() && payload.append(text).is_ok(),
         Err(_) => false,

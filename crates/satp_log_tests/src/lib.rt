@@ -1,4 +1,4 @@
-//! Tests of logs: the journals of a whole transfer, at both gateways, read as they are and with one payload changed.
+//! Tests of logs: the journals of a whole transfer, at both gateways, read as they are and with one payload changed, and the lines that `replay` makes of them.
 #![tactic(auto)]
 
 #[cfg(test)]
@@ -7,3 +7,5 @@ mod changes;
 mod journals;
 #[cfg(test)]
 mod log_tests;
+#[cfg(test)]
+mod replay_tests;

@@ -13,7 +13,7 @@ use Rattle.satp_base.specs.declared.name.Name.{Name}
 use Rattle.satp_base.specs.declared.session.SessionId.{SessionId}
 use Rattle.satp_words.specs.Options.{IsUtf8All, Takes, app, named, value}
 use Rattle.satp_words.specs.declared.command.Command.{Command}
-use Rattle.satp_words.specs.declared.command.Command.TheVariants.{Answer, Check, Init, Serve, Start, Resume, Recover, Abort, Show}
+use Rattle.satp_words.specs.declared.command.Command.TheVariants.{Answer, Check, Init, Serve, Start, Resume, Recover, Abort, Show, Replay}
 use Rattle.satp_words.specs.declared.verbs.Verb.{Verb}
 use Rattle.satp_words.specs.declared.verbs.Verb.TheVariants as verb
 
@@ -29,6 +29,7 @@ verb_text verb.Resume = codes "resume"
 verb_text verb.Recover = codes "recover"
 verb_text verb.Abort = codes "abort"
 verb_text verb.Show = codes "show"
+verb_text verb.Replay = codes "replay"
 
 -- an option that has to be there
 abbrev pub needed : Text → Rule
@@ -48,6 +49,7 @@ options verb.Resume = of_session
 options verb.Recover = of_session
 options verb.Abort = of_session
 options verb.Show = of_session
+options verb.Replay = []
 
 abbrev pub form : Verb → App
 form v = app (verb_text v) (options v)
@@ -115,6 +117,7 @@ HasValues values (Resume dir session) = SessionValues values dir session
 HasValues values (Recover dir session) = SessionValues values dir session
 HasValues values (Abort dir session) = SessionValues values dir session
 HasValues values (Show dir session) = SessionValues values dir session
+HasValues values Replay = Unit {0}
 
 -- ---- which words list which command
 
@@ -128,6 +131,7 @@ verb_of (Resume dir session) = Some verb.Resume
 verb_of (Recover dir session) = Some verb.Recover
 verb_of (Abort dir session) = Some verb.Abort
 verb_of (Show dir session) = Some verb.Show
+verb_of Replay = Some verb.Replay
 
 -- the first word is this one
 abbrev pub Begins : List Text → Text → Type 0
@@ -155,6 +159,7 @@ IsListed words (Resume dir session) = HasOptions verb.Resume words (Resume dir s
 IsListed words (Recover dir session) = HasOptions verb.Recover words (Recover dir session)
 IsListed words (Abort dir session) = HasOptions verb.Abort words (Abort dir session)
 IsListed words (Show dir session) = HasOptions verb.Show words (Show dir session)
+IsListed words Replay = HasOptions verb.Replay words Replay
 
 -- they list none
 abbrev pub NotListed : List Text → Type 0

@@ -127,3 +127,17 @@ pub record TransfersWords : Type 0 where
   pub no_connections : fault_of serve serve_words ≡ kind.MissingRequiredArgument ∷ []
   pub of_another : fault_of start (start_words ++ codes "--session=alpha.1" ∷ []) ≡ kind.UnknownArgument ∷ []
   pub bare_session : fault_of recover (codes "recover" ∷ codes "--dir" ∷ codes "d" ∷ codes "alpha.1" ∷ []) ≡ kind.UnknownArgument ∷ []
+
+-- ---- a command without options
+
+abbrev pub replay : App
+replay = form verb.Replay
+
+pub record ReplaysWords : Type 0 where
+  pub alone : Takes replay (codes "replay" ∷ [])
+  pub end : Takes replay (codes "replay" ∷ codes "--" ∷ [])
+  -- a file's name, an option of another command, help, and an empty word
+  pub word_too_many : fault_of replay (codes "replay" ∷ codes "journal-a" ∷ []) ≡ kind.UnknownArgument ∷ []
+  pub of_another : fault_of replay (codes "replay" ∷ codes "--dir=d" ∷ []) ≡ kind.UnknownArgument ∷ []
+  pub help : fault_of replay (codes "replay" ∷ codes "--help" ∷ []) ≡ kind.UnknownArgument ∷ []
+  pub empty_word : fault_of replay (codes "replay" ∷ [] ∷ []) ≡ kind.UnknownArgument ∷ []

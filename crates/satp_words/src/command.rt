@@ -61,6 +61,8 @@ pub enum Command {
         dir: Text,
         session: SessionId,
     },
+    /// `replay`: read the bytes of a journal and print its sessions.
+    Replay,
 }
 
 /// Why words list no command.

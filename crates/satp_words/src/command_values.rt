@@ -48,6 +48,7 @@ pub(crate) fn values(alloc: Global, verb: Verb, found: &ArgMatches) -> Result<Co
             let InDirectory { dir, session } = dir_and_session(alloc, found)?;
             Ok(Command::Show { dir, session })
         }
+        Verb::Replay => Ok(Command::Replay),
     }
 }
 

@@ -50,6 +50,7 @@ pub(crate) fn options_of<'a>(
         Verb::Recover => session_options(alloc, "recover", words),
         Verb::Abort => session_options(alloc, "abort", words),
         Verb::Show => session_options(alloc, "show", words),
+        Verb::Replay => matches(alloc, "replay", &[], words),
     }
 }
 

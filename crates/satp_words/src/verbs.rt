@@ -13,6 +13,7 @@ pub(crate) enum Verb {
     Recover,
     Abort,
     Show,
+    Replay,
 }
 
 /// The command that a first word names.
@@ -36,6 +37,8 @@ pub(crate) fn find_verb(word: &[u8]) -> Option<Verb>
         Some(Verb::Abort)
     } else if word == b"show".as_slice() {
         Some(Verb::Show)
+    } else if word == b"replay".as_slice() {
+        Some(Verb::Replay)
     } else {
         None
     }

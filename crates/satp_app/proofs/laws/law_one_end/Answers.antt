@@ -1,9 +1,11 @@
 use Rattle.satp_app.specs.Answer.{answer_says}
 use Rattle.satp_app.specs.Check.{check_says, signed_says}
+use Rattle.satp_app.specs.Replay.{journal_form, replay_says}
 use Rattle.satp_outcome.specs.Texts.{text_form}
 use Rattle.satp_app.proofs.OneEnd.{one_end}
 use Rattle.satp_app.proofs.OneInit.{one_init}
 use Rattle.satp_app.proofs.OneReply.{one_answer, one_check}
+use Rattle.satp_app.proofs.OneReplay.{one_replay}
 use Rattle.satp_app.proofs.laws.law_one_end.Goals as goal
 
 pub returns-clause-answer : goal.returns-clause-answer
@@ -17,3 +19,6 @@ returns-clause-signed c = λ key one. one_end text_form (signed_says key) one
 
 pub returns-clause-init : goal.returns-clause-init
 returns-clause-init c = one_init
+
+pub returns-clause-replay : goal.returns-clause-replay
+returns-clause-replay c = one_end journal_form replay_says one_replay

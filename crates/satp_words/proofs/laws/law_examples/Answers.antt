@@ -75,3 +75,14 @@ returns-clause-transfers c = record {
   of_another = refl;
   bare_session = refl;
 }
+
+pub returns-clause-replay : goal.returns-clause-replay
+unfolding clap_on_literals
+returns-clause-replay c = record {
+  alone = refl;
+  end = refl;
+  word_too_many = refl;
+  of_another = refl;
+  help = refl;
+  empty_word = refl;
+}

@@ -1,5 +1,5 @@
 -- An undisturbed drive goes along the texts that pass between both gateways.
-use Rattle.std.proofs.Common.{◌≡◌, ◌≢◌, ◌⊎◌, ◌≤◌, ◌+◌, inl, inr, suc, Bool, List, [], ◌∷◌, ◌++◌, length, Option, Some, None, Result, Ok, Err, refl, sym, ap, subst, ◌∙◌, arith}
+use Rattle.std.proofs.Common.{◌≡◌, ◌≢◌, ◌⊎◌, ◌≤◌, ◌+◌, ◌==◌, inl, inr, suc, Bool, true, false, List, [], ◌∷◌, ◌++◌, length, Option, Some, None, Result, Ok, Err, refl, sym, ap, subst, ◌∙◌, arith}
 use Rattle.satp_base.specs.Calls.{Told}
 use Rattle.satp_base.specs.Founding.{Founding}
 use Rattle.satp_base.specs.declared.session.SessionId.{SessionId}
@@ -19,11 +19,12 @@ use Rattle.satp_world.specs.Histories.{after_event, call_moves}
 use Rattle.satp_world.specs.Histories.Event.{Called}
 use Rattle.satp_world.specs.Worlds.{Gateway, Reached, Setting, World, opposite, party_at, side_at, with_side}
 use Rattle.satp_world.specs.Worlds.Gateway.{A, B}
+use Rattle.satp_world.proofs.SenderLaw.{said-is-short}
 use Rattle.satp_point_laws.specs.Happening.{StandsIn}
 use Rattle.satp_rounds.specs.Conversations.{Converses, Hands}
 use Rattle.satp_rounds.specs.Conversations as conversations
 use Rattle.satp_rounds.specs.Conversations.Hands.{Heard}
-use Rattle.satp_rounds.proofs.Once.{hands-once, reply-once}
+use Rattle.satp_rounds.proofs.Once.{reply-once}
 use Rattle.satp_runs.specs.Asking.{IsAnswered}
 use Rattle.satp_runs.specs.Asking as asking
 use Rattle.satp_gateway.specs.Handling.{reply_of, text_in}
@@ -36,7 +37,8 @@ use Rattle.satp_drive.specs.declared.turn.Turn.{Turn}
 use Rattle.satp_drive.specs.Drives as drives
 use Rattle.satp_drive.specs.declared.turn.Turn.TheVariants.{Posts, Ends}
 use Rattle.satp_drive.specs.declared.driven.DriveEnd.TheVariants.{Memory, Site}
-use Rattle.satp_drive_laws.specs.Undisturbed.{IsAnswer, Replies, Stands, TakesReply, messages, passed, spoken}
+use Rattle.satp_drive_laws.specs.Peer.{IsAnswer, IsAnswerOf, PeerAnswers}
+use Rattle.satp_drive_laws.specs.Undisturbed.{BothStand, messages, passed}
 use Rattle.satp_drive_laws.specs.Completing.{PostsNext}
 use Rattle.satp_runs.proofs.OneSideLaw.{one-event, other-side, side-after}
 use Rattle.satp_runs.proofs.Asks.{is-answered}
@@ -74,6 +76,42 @@ hands-go st a b w g t _ _ reached among (Heard m e reply heard answer) = record 
 pub hands-other : (st : Setting) (w : World) (g : Gateway) (t : Text) (reply : Option Text) (v : World) → Hands st w (opposite g) t reply v → side_at v g ≡ side_at w g
 hands-other st w g t _ _ (Heard m e reply heard answer) = other-side w g _ _
 
+pub peer-side : (w : World) (g : Gateway) (side : Side) (bag : List Text) → side_at (with_side w g side bag) (opposite g) ≡ side_at w (opposite g)
+peer-side w A side bag = refl
+peer-side w B side bag = refl
+
+pub hands-peer : (st : Setting) (w : World) (g : Gateway) (t : Text) (reply : Option Text) (v : World) → Hands st w g t reply v → side_at v (opposite g) ≡ side_at w (opposite g)
+hands-peer st w g t _ _ (Heard m e reply heard answer) = peer-side w g _ _
+
+-- ---- the other gateway's answers
+
+-- the answer to the next text isn't lacking
+abbrev pub HeardNext : Turn → (Text → Type 0) → Type 0
+HeardNext next L = (t : Text) (owed : Bool) → next ≡ Posts t owed → L t → ⊥
+
+module _ (st : Setting) (g : Gateway) (R : Side → List Text → List Answered → Type 0) where
+  -- The rest of the answers begins with that to a text which the other gateway takes: its reply.
+  abbrev pub Takes : Type 0
+  Takes =
+      (w v : World) (t : Text) (reply : Option Text) (posted : List Text) (answer : Answered) (answers : List Answered) → Hands st w (opposite g) t reply v → ((u : Text) → reply ≡ Some u → length u ≤ 8192)
+      → R (side_at w (opposite g)) (t ∷ posted) (answer ∷ answers) → IsAnswer reply answer × R (side_at v (opposite g)) posted answers
+
+  -- a text that it takes doesn't lack its answer
+  abbrev pub NeverLacks : (Text → Type 0) → Type 0
+  NeverLacks L = (w v : World) (t : Text) (reply : Option Text) → Hands st w (opposite g) t reply v → ((u : Text) → reply ≡ Some u → length u ≤ 8192) → R (side_at w (opposite g)) [] [] → L t → ⊥
+
+hands-answered : (st : Setting) (w : World) (h : Gateway) (t : Text) (reply : Option Text) (v : World) (posted : List Text) (answer : Answered) (answers : List Answered) (P : Side → Type 0) → Hands st w h t reply v
+    → PeerAnswers (party_at st h) (side_at w h) (t ∷ posted) (answer ∷ answers) P → IsAnswer reply answer × PeerAnswers (party_at st h) (side_at v h) posted answers P
+hands-answered st w h t _ _ posted answer answers P (Heard m e reply heard is) given =
+    let here = given m e heard in
+    (subst (λ (o : Option (Result (Option Text) Refusal)). IsAnswerOf o answer) is here.0, subst (λ (x : Side). PeerAnswers (party_at st h) x posted answers P) (sym (side-after w h _ _)) here.1)
+
+pub peer-takes : (st : Setting) (g : Gateway) (P : Side → Type 0) → Takes st g (λ side posted answers. PeerAnswers (party_at st (opposite g)) side posted answers P)
+peer-takes st g P w v t reply posted answer answers hands short given = hands-answered st w (opposite g) t reply v posted answer answers P hands given
+
+reply-short : (st : Setting) (a b : Founding) (v : World) (reply : Option Text) → Reached st a b v → ((u : Text) → reply ≡ Some u → Among u v.bag) → (u : Text) → reply ≡ Some u → length u ≤ 8192
+reply-short st a b v reply reached said u is = said-is-short st a b v reached u (Alone (said u is))
+
 abbrev View : Setting → World → Gateway → Text → List Text → World → Type 0
 View st w h t said between =
     (Hands st w h t None between × (said ≡ t ∷ []))
@@ -82,14 +120,6 @@ View st w h t said between =
 view : (st : Setting) (w : World) (h : Gateway) (t : Text) (said : List Text) (between : World) → Converses st w h t said between → View st w h t said between
 view st _ _ _ _ _ (conversations.Converses.Ends w g t v hands) = inl (hands, refl)
 view st _ _ _ _ _ (conversations.Converses.Goes w g t u v texts after hands rest) = inr (u, v, texts, hands, rest, refl)
-
--- ---- counts
-
-texts-200 : (answer : Answered) (answers : List Answered) → answer.code ≡ 200 → texts_in (answer ∷ answers) ≡ suc (texts_in answers)
-texts-200 answer answers e = rw e refl
-
-pub texts-204 : (answer : Answered) (answers : List Answered) → answer.code ≡ 204 → texts_in (answer ∷ answers) ≡ texts_in answers
-texts-204 answer answers e = rw e refl
 
 -- ---- the texts that have passed
 
@@ -108,27 +138,28 @@ next-after : (next : Turn) (first texts first2 texts2 : List Text) (t u : Text) 
 next-after (Posts x owed) first texts first2 texts2 t u is all (rest, e) = (rest, all ∙ ap (λ (l : List Text). t ∷ u ∷ l) e ∙ ap (λ (l : List Text). l ++ x ∷ rest) (sym is))
 next-after (Ends e) first texts first2 texts2 t u is all next = absurd next
 
--- each text that is posted has an answer, and that is a text or none
-pub passed-count : (st : Setting) (g : Gateway) (w : World) (posted : List Text) (answers : List Answered) (after : World) → Replies st g w posted answers after → length (passed posted answers) ≡ messages posted answers
-passed-count st g w [] [] after peer = refl
-passed-count st g w [] (answer ∷ answers) after peer = absurd peer
-passed-count st g w (t ∷ posted) [] after peer = absurd peer
-passed-count st g w (t ∷ posted) (answer ∷ answers) after peer = by-reply peer.0 peer.5 (passed-count st g (spoken peer.2 peer.3 g posted) posted answers after peer.7)
+-- each text that is posted has an answer, and that brings a text or none
+pub passed-count : (s : SessionId) (answers : List Answered) (posted : List Text) (b a : Standing) (turn next : Turn) → AfterAnswers s b turn answers posted a next → length (passed posted answers) ≡ messages posted answers
+passed-count s [] posted b a turn next leads = subst (λ (l : List Text). length (passed l []) ≡ messages l []) (sym leads.0) refl
+passed-count s (answer ∷ answers) posted b a (Ends e) next leads = absurd leads
+passed-count s (answer ∷ answers) posted b a (Posts t owed) next leads =
+    subst (λ (l : List Text). length (passed l (answer ∷ answers)) ≡ messages l (answer ∷ answers)) (sym leads.4) (by-code (answer.code == 200) refl (passed-count s answers leads.2 leads.0 a leads.1 next leads.5))
   where
-    by-reply : (reply : Option Text) → IsAnswer reply answer → length (passed posted answers) ≡ messages posted answers → length (passed (t ∷ posted) (answer ∷ answers)) ≡ messages (t ∷ posted) (answer ∷ answers)
-    by-reply (Some u) is rest =
-        let one : length (passed (t ∷ posted) (answer ∷ answers)) ≡ 2 + length (passed posted answers) = ap length (passed-200 t posted answer answers is.0) ∙ omega arith in
-        let two = texts-200 answer answers is.0 in
+    by-code : (c : Bool) → (answer.code == 200) ≡ c → length (passed leads.2 answers) ≡ messages leads.2 answers → length (passed (t ∷ leads.2) (answer ∷ answers)) ≡ messages (t ∷ leads.2) (answer ∷ answers)
+    by-code true e rest =
+        let one : length (passed (t ∷ leads.2) (answer ∷ answers)) ≡ 2 + length (passed leads.2 answers) = rw e omega arith in
+        let two : texts_in (answer ∷ answers) ≡ suc (texts_in answers) = rw e refl in
         omega (arith, one, two, rest)
-    by-reply None is rest =
-        let one : length (passed (t ∷ posted) (answer ∷ answers)) ≡ 1 + length (passed posted answers) = ap length (passed-204 t posted answer answers is) ∙ omega arith in
-        let two = texts-204 answer answers is in
+    by-code false e rest =
+        let one : length (passed (t ∷ leads.2) (answer ∷ answers)) ≡ 1 + length (passed leads.2 answers) = rw e omega arith in
+        let two : texts_in (answer ∷ answers) ≡ texts_in answers = rw e refl in
         omega (arith, one, two, rest)
 
 no-refusal : (answer : Option (Result (Option Text) Refusal)) (r : Refused) (back : Option Text) → answer ≡ Some (Ok back) → AnswersAs answer (Err r) → ⊥
 no-refusal answer r back e (refusal, is, same) = let bad : ◌≡◌ {A = Option (Result (Option Text) Refusal)} (Some (Ok back)) (Some (Err refusal)) = sym e ∙ is in cc bad
 
-module _ (st : Setting) (a b : Founding) (g : Gateway) (s : SessionId) (setup : Setup) (new : Standing) (next : Turn) (now : World) (memory : next ≢ Ends Memory) (site : next ≢ Ends Site) where
+module _ (st : Setting) (a b : Founding) (g : Gateway) (s : SessionId) (setup : Setup) (new : Standing) (next : Turn) (P : Side → Type 0) (memory : next ≢ Ends Memory) (site : next ≢ Ends Site)
+    (R : Side → List Text → List Answered → Type 0) (L : Text → Type 0) (takes : Takes st g R) (never : NeverLacks st g R L) (ends : (side : Side) → R side [] [] → P side) where
   pub after-end : (m : Standing) (e : DriveEnd) (answers : List Answered) (posted : List Text) → AfterAnswers s m (Ends e) answers posted new next → (next ≡ Ends e) × (posted ≡ []) × (answers ≡ []) × (new ≡ m)
   after-end m e [] posted leads = (leads.2, leads.0, refl, leads.1)
   after-end m e (x ∷ answers) posted leads = absurd leads
@@ -177,6 +208,13 @@ module _ (st : Setting) (a b : Founding) (g : Gateway) (s : SessionId) (setup : 
 
   -- ---- along the conversation
 
+  -- the other gateway answers the rest of the texts
+  abbrev AnswersRest : World → List Text → List Answered → Type 0
+  AnswersRest w posted answers = R (side_at w (opposite g)) posted answers
+
+  rest-there : (w v : World) (posted : List Text) (answers : List Answered) → side_at v (opposite g) ≡ side_at w (opposite g) → AnswersRest w posted answers → AnswersRest v posted answers
+  rest-there w v posted answers same rest = subst (λ (x : Side). R x posted answers) (sym same) rest
+
   -- it has ended, and so many of the drive's texts and answers are left
   pub record Left (owed : Bool) (between : World) (posted : List Text) (answers : List Answered) (said : List Text) : Type 0 where
     pub m : Standing
@@ -186,7 +224,7 @@ module _ (st : Setting) (a b : Founding) (g : Gateway) (s : SessionId) (setup : 
     pub more_posted : List Text
     pub more_answers : List Answered
     pub leads : AfterAnswers s m (unreplied (party_at st g) s owed (side_at between g).records) more_answers more_posted new next
-    pub peer : Replies st g (spoken None between g more_posted) more_posted more_answers now
+    pub answered : R (side_at between (opposite g)) more_posted more_answers
     pub texts : passed posted answers ≡ said ++ passed more_posted more_answers
     pub posts : length posted ≤ length said + length more_posted
 
@@ -194,7 +232,9 @@ module _ (st : Setting) (a b : Founding) (g : Gateway) (s : SessionId) (setup : 
   pub record Amid (posted : List Text) (answers : List Answered) (said : List Text) : Type 0 where
     pub posts_next : PostsNext next (passed posted answers) said
     pub few : length posted ≤ length said
-    pub stands : Stands st now g new setup
+    pub now : World
+    pub both : BothStand st a b g now new setup P
+    pub heard : HeardNext next L
 
   abbrev Walked : Bool → World → List Text → List Answered → List Text → Type 0
   Walked owed between posted answers said = Left owed between posted answers said ⊎ Amid posted answers said
@@ -214,7 +254,7 @@ module _ (st : Setting) (a b : Founding) (g : Gateway) (s : SessionId) (setup : 
         more_posted = left.more_posted;
         more_answers = left.more_answers;
         leads = left.leads;
-        peer = left.peer;
+        answered = left.answered;
         texts = passed-is ∙ ap (λ (l : List Text). t ∷ u ∷ l) left.texts ∙ ap (λ (l : List Text). l ++ passed left.more_posted left.more_answers) (sym all);
         posts = omega (arith, one, two, left.posts);
       })
@@ -224,127 +264,131 @@ module _ (st : Setting) (a b : Founding) (g : Gateway) (s : SessionId) (setup : 
       inr (record {
         posts_next = next-after next (passed later answers) texts (passed posted (answer ∷ answers)) said t u (two-passed posted later answer answers t u code body is) all amid.posts_next;
         few = omega (arith, one, two, amid.few);
-        stands = amid.stands;
+        now = amid.now;
+        both = amid.both;
+        heard = amid.heard;
       })
 
   module _ (owed : Bool) (between : World) where
     -- the other gateway replies nothing
-    step-silent : (w v : World) (m middle : Standing) (t : Told) (text : Text) (said : List Text) (answer : Answered) (answers : List Answered) (posted later : List Text) (turn : Turn)
-        → Reached st a b w → StandsIn st w g m.gateway m.site setup t → Among text w.bag → Hands st w (opposite g) text None v → View st w (opposite g) text said between
-        → answer.code ≡ 204 → AfterAnswer s owed m answer middle turn → posted ≡ text ∷ later → AfterAnswers s middle turn answers later new next → Replies st g (spoken None v g later) later answers now
+    step-silent : (w : World) (m middle : Standing) (t : Told) (text : Text) (said : List Text) (answer : Answered) (answers : List Answered) (posted later : List Text) (turn : Turn)
+        → Reached st a b w → StandsIn st w g m.gateway m.site setup t → Among text w.bag → Hands st w (opposite g) text None between → said ≡ text ∷ []
+        → answer.code ≡ 204 → AfterAnswer s owed m answer middle turn → posted ≡ text ∷ later → AfterAnswers s middle turn answers later new next → AnswersRest between later answers
         → Walked owed between posted (answer ∷ answers) said
-    step-silent w v m middle t text said answer answers posted later turn reached stands among hands (inr (u, v', texts, other, rest, all)) code after is leads peer =
-        absurd (let e = (hands-once st w (opposite g) text None (Some u) v v' hands other).0 in cc e)
-    step-silent w v m middle t text said answer answers posted later turn reached stands among hands (inl (same, all)) code (drives.AfterAnswer.brings_text is200 handles) is leads peer =
+    step-silent w m middle t text said answer answers posted later turn reached stands among hands all code (drives.AfterAnswer.brings_text is200 handles) is leads rest =
         absurd (let bad : 204 ≡ 200 = sym code ∙ is200 in omega (arith, bad))
-    step-silent w v m middle t text said answer answers posted later turn reached stands among hands (inl (same, all)) code (drives.AfterAnswer.refuses not200 not204 stays ends) is leads peer =
+    step-silent w m middle t text said answer answers posted later turn reached stands among hands all code (drives.AfterAnswer.refuses not200 not204 stays ends) is leads rest =
         absurd (not204 code)
-    step-silent w v m middle t text said answer answers posted later turn reached stands among hands (inl (same, all)) code (drives.AfterAnswer.brings_none is204 stays follows) is leads peer =
-        let here : v ≡ between = (hands-once st w (opposite g) text None None v between hands same).1 in
-        let at-v : StandsIn st v g m.gateway m.site setup t = record { party = stands.party; at = subst (λ (z : Side). IsAt m.gateway m.site setup z t) (sym (hands-other st w g text None v hands)) stands.at } in
+    step-silent w m middle t text said answer answers posted later turn reached stands among hands all code (drives.AfterAnswer.brings_none is204 stays follows) is leads rest =
+        let at-v : StandsIn st between g m.gateway m.site setup t = record { party = stands.party; at = subst (λ (z : Side). IsAt m.gateway m.site setup z t) (sym (hands-other st w g text None between hands)) stands.at } in
         let leads' : AfterAnswers s m turn answers later new next = subst (λ (x : Standing). AfterAnswers s x turn answers later new next) stays leads in
-        let turn-is = silent-turn m owed v t at-v turn follows answers later leads' in
+        let turn-is = silent-turn m owed between t at-v turn follows answers later leads' in
         let one : length posted ≡ 1 + length later = ap length is ∙ omega arith in
         let two : length said ≡ 1 = ap length all in
         let passed-is = ap (λ (l : List Text). passed l (answer ∷ answers)) is ∙ passed-204 text later answer answers code in
         inl (record {
           m = m;
           t = t;
-          stands = subst (λ (x : World). StandsIn st x g m.gateway m.site setup t) here at-v;
-          reached = subst (λ (x : World). Reached st a b x) here (hands-go st a b w (opposite g) text None v reached among hands).reached;
+          stands = at-v;
+          reached = (hands-go st a b w (opposite g) text None between reached among hands).reached;
           more_posted = later;
           more_answers = answers;
-          leads = subst (λ (x : World). AfterAnswers s m (unreplied (party_at st g) s owed (side_at x g).records) answers later new next) here (subst (λ (x : Turn). AfterAnswers s m x answers later new next) turn-is leads');
-          peer = subst (λ (x : World). Replies st g (spoken None x g later) later answers now) here peer;
+          leads = subst (λ (x : Turn). AfterAnswers s m x answers later new next) turn-is leads';
+          answered = rest;
           texts = passed-is ∙ ap (λ (l : List Text). l ++ passed later answers) (sym all);
           posts = omega (arith, one, two);
         })
 
+    -- the rest of the walk, from the text that this gateway replies
     abbrev GoesOn : World → Standing → List Text → List Answered → Type 0
     GoesOn x middle later answers =
         (u2 : Text) (texts : List Text) (t2 : Told) → Reached st a b x → StandsIn st x g middle.gateway middle.site setup t2 → Among u2 x.bag → Converses st x (opposite g) u2 texts between
-        → AfterAnswers s middle (Posts u2 owed) answers later new next → Replies st g x later answers now → Walked owed between later answers texts
+        → AfterAnswers s middle (Posts u2 owed) answers later new next → AnswersRest x later answers → Walked owed between later answers texts
 
-    -- this gateway hears that, and replies in turn
-    step-back : (v x : World) (middle : Standing) (text u : Text) (back : Option Text) (texts said : List Text) (turn : Turn) (answer : Answered) (answers : List Answered) (posted later : List Text)
-        → Taken owed x middle back turn → Handed st a b v g back x → Hands st v g u back x → View st v g u texts between → answer.code ≡ 200 → answer.body ≡ u → posted ≡ text ∷ later → said ≡ text ∷ texts
-        → AfterAnswers s middle turn answers later new next → Replies st g (spoken back x g later) later answers now → GoesOn x middle later answers → Walked owed between posted (answer ∷ answers) said
-    step-back v x middle text u None texts said turn answer answers posted later taken handed hands (inl (same, all)) code body is whole leads peer go-on =
-        let here : x ≡ between = (hands-once st v g u None None x between hands same).1 in
-        let turn-is = silent-turn middle owed x taken.t taken.stands turn taken.follows answers later leads in
+    -- this gateway hears what the other one replied, and replies in turn
+    step-back : (v : World) (m middle : Standing) (t : Told) (text u : Text) (texts said : List Text) (turn : Turn) (answer : Answered) (answers : List Answered) (posted later : List Text)
+        → Reached st a b v → StandsIn st v g m.gateway m.site setup t → Among u v.bag → (result : Result Reply Refused) → Handled u m middle result → AfterHandling s owed middle.gateway result turn
+        → View st v g u texts between → answer.code ≡ 200 → answer.body ≡ u → posted ≡ text ∷ later → said ≡ text ∷ texts
+        → AfterAnswers s middle turn answers later new next → AnswersRest v later answers → ((x : World) → GoesOn x middle later answers) → Walked owed between posted (answer ∷ answers) said
+    step-back v m middle t text u texts said turn answer answers posted later reached stands among result handled follows (inl (hands, all)) code body is whole leads rest go-on =
+        let taken = takes-reply v m middle t reached stands owed turn answers later leads u None between among hands result handled follows in
+        let turn-is = silent-turn middle owed between taken.t taken.stands turn taken.follows answers later leads in
         let one : length posted ≡ 1 + length later = ap length is ∙ omega arith in
         let two : length said ≡ 2 = ap length whole ∙ ap (λ (l : List Text). suc (length l)) all in
         let passed-is = two-passed posted later answer answers text u code body is in
         inl (record {
           m = middle;
           t = taken.t;
-          stands = subst (λ (z : World). StandsIn st z g middle.gateway middle.site setup taken.t) here taken.stands;
-          reached = subst (λ (z : World). Reached st a b z) here handed.reached;
+          stands = taken.stands;
+          reached = (hands-go st a b v g u None between reached among hands).reached;
           more_posted = later;
           more_answers = answers;
-          leads = subst (λ (z : World). AfterAnswers s middle (unreplied (party_at st g) s owed (side_at z g).records) answers later new next) here (subst (λ (z : Turn). AfterAnswers s middle z answers later new next) turn-is leads);
-          peer = subst (λ (z : World). Replies st g (spoken None z g later) later answers now) here peer;
+          leads = subst (λ (z : Turn). AfterAnswers s middle z answers later new next) turn-is leads;
+          answered = rest-there v between later answers (hands-peer st v g u None between hands) rest;
           texts = passed-is ∙ ap (λ (l : List Text). l ++ passed later answers) (sym (whole ∙ ap (λ (l : List Text). text ∷ l) all));
           posts = omega (arith, one, two);
         })
-    step-back v x middle text u None texts said turn answer answers posted later taken handed hands (inr (u2, x', texts2, other, rest, all)) code body is whole leads peer go-on =
-        absurd (let e = (hands-once st v g u None (Some u2) x x' hands other).0 in cc e)
-    step-back v x middle text u (Some u2) texts said turn answer answers posted later taken handed hands (inl (same, all)) code body is whole leads peer go-on =
-        absurd (let e = (hands-once st v g u (Some u2) None x between hands same).0 in cc e)
-    step-back v x middle text u (Some u2) texts said turn answer answers posted later taken handed hands (inr (u2', x', texts2, other, rest, all)) code body is whole leads peer go-on =
-        let same = hands-once st v g u (Some u2) (Some u2') x x' hands other in
-        let rest' : Converses st x (opposite g) u2 texts2 between = subst (λ (z : World). Converses st z (opposite g) u2 texts2 between) (sym same.1) (subst (λ (z : Text). Converses st x' (opposite g) z texts2 between) (sym (some-text u2 u2' same.0)) rest) in
+    step-back v m middle t text u texts said turn answer answers posted later reached stands among result handled follows (inr (u2, x, texts2, hands, more, all)) code body is whole leads rest go-on =
+        let taken = takes-reply v m middle t reached stands owed turn answers later leads u (Some u2) x among hands result handled follows in
+        let handed = hands-go st a b v g u (Some u2) x reached among hands in
         two-more owed between later posted answer answers texts2 said text u code body is (whole ∙ ap (λ (l : List Text). text ∷ l) all)
-        (go-on u2 texts2 taken.t handed.reached taken.stands (handed.said u2 refl) rest' (subst (λ (z : Turn). AfterAnswers s middle z answers later new next) taken.follows leads) peer)
+        (go-on x u2 texts2 taken.t handed.reached taken.stands (handed.said u2 refl) more (subst (λ (z : Turn). AfterAnswers s middle z answers later new next) taken.follows leads) (rest-there v x later answers (hands-peer st v g u (Some u2) x hands) rest))
 
-    -- it replies this text
-    step-reply : (w v : World) (m middle : Standing) (t : Told) (text u : Text) (back : Option Text) (x : World) (said : List Text) (answer : Answered) (answers : List Answered) (posted later : List Text) (turn : Turn)
-        → Reached st a b w → StandsIn st w g m.gateway m.site setup t → Among text w.bag → Hands st w (opposite g) text (Some u) v → View st w (opposite g) text said between
-        → answer.code ≡ 200 → answer.body ≡ u → Hands st v g u back x → AfterAnswer s owed m answer middle turn → posted ≡ text ∷ later → AfterAnswers s middle turn answers later new next
-        → Replies st g (spoken back x g later) later answers now
-        → GoesOn x middle later answers → Walked owed between posted (answer ∷ answers) said
-    step-reply w v m middle t text u back x said answer answers posted later turn reached stands among hands (inl (same, all)) code body takes after is leads peer go-on =
-        absurd (let e = (hands-once st w (opposite g) text (Some u) None v between hands same).0 in cc e)
-    step-reply w v m middle t text u back x said answer answers posted later turn reached stands among hands (inr (u', v', texts, other, rest, all)) code body takes (drives.AfterAnswer.brings_none is204 stays follows) is leads peer go-on =
+    -- the other gateway replies this text
+    step-reply : (w v : World) (m middle : Standing) (t : Told) (text u : Text) (texts said : List Text) (answer : Answered) (answers : List Answered) (posted later : List Text) (turn : Turn)
+        → Reached st a b w → StandsIn st w g m.gateway m.site setup t → Among text w.bag → Hands st w (opposite g) text (Some u) v → Converses st v (opposite (opposite g)) u texts between → said ≡ text ∷ texts
+        → answer.code ≡ 200 → answer.body ≡ u → AfterAnswer s owed m answer middle turn → posted ≡ text ∷ later → AfterAnswers s middle turn answers later new next
+        → AnswersRest v later answers → ((x : World) → GoesOn x middle later answers) → Walked owed between posted (answer ∷ answers) said
+    step-reply w v m middle t text u texts said answer answers posted later turn reached stands among hands conv all code body (drives.AfterAnswer.brings_none is204 stays follows) is leads rest go-on =
         absurd (let bad : 200 ≡ 204 = sym code ∙ is204 in omega (arith, bad))
-    step-reply w v m middle t text u back x said answer answers posted later turn reached stands among hands (inr (u', v', texts, other, rest, all)) code body takes (drives.AfterAnswer.refuses not200 not204 stays ends) is leads peer go-on =
+    step-reply w v m middle t text u texts said answer answers posted later turn reached stands among hands conv all code body (drives.AfterAnswer.refuses not200 not204 stays ends) is leads rest go-on =
         absurd (not200 code)
-    step-reply w v m middle t text u back x said answer answers posted later turn reached stands among hands (inr (u', v', texts, other, rest, all)) code body takes (drives.AfterAnswer.brings_text is200 (result, handled, follows)) is leads peer go-on =
-        let same = hands-once st w (opposite g) text (Some u) (Some u') v v' hands other in
-        let text-is : u ≡ u' = some-text u u' same.0 in
+    step-reply w v m middle t text u texts said answer answers posted later turn reached stands among hands conv all code body (drives.AfterAnswer.brings_text is200 (result, handled, follows)) is leads rest go-on =
         let handed = hands-go st a b w (opposite g) text (Some u) v reached among hands in
         let at-v : StandsIn st v g m.gateway m.site setup t = record { party = stands.party; at = subst (λ (z : Side). IsAt m.gateway m.site setup z t) (sym (hands-other st w g text (Some u) v hands)) stands.at } in
-        let taken = takes-reply v m middle t handed.reached at-v owed turn answers later leads u back x (handed.said u refl) takes result (subst (λ (z : Text). Handled z m middle result) body handled) follows in
-        let here : Converses st v g u texts between = subst (λ (h : Gateway). Converses st v h u texts between) (twice-opposite g) (subst (λ (z : World). Converses st z (opposite (opposite g)) u texts between) (sym same.1) (subst (λ (z : Text). Converses st v' (opposite (opposite g)) z texts between) (sym text-is) rest)) in
-        step-back v x middle text u back texts said turn answer answers posted later taken (hands-go st a b v g u back x handed.reached (handed.said u refl) takes) takes (view st v g u texts between here) code body is all leads peer go-on
+        let here : Converses st v g u texts between = subst (λ (h : Gateway). Converses st v h u texts between) (twice-opposite g) conv in
+        step-back v m middle t text u texts said turn answer answers posted later handed.reached at-v (handed.said u refl) result (subst (λ (z : Text). Handled z m middle result) body handled) follows (view st v g u texts between here) code body is all leads rest go-on
 
-    step : (w v : World) (m middle : Standing) (t : Told) (text : Text) (reply back : Option Text) (x : World) (said : List Text) (answer : Answered) (answers : List Answered) (posted later : List Text) (turn : Turn)
-        → Reached st a b w → StandsIn st w g m.gateway m.site setup t → Among text w.bag → Hands st w (opposite g) text reply v → View st w (opposite g) text said between
-        → IsAnswer reply answer → TakesReply st g v reply back x → AfterAnswer s owed m answer middle turn → posted ≡ text ∷ later → AfterAnswers s middle turn answers later new next
-        → Replies st g (spoken back x g later) later answers now → GoesOn x middle later answers → Walked owed between posted (answer ∷ answers) said
-    step w v m middle t text None back x said answer answers posted later turn reached stands among hands conv is-answer takes after is leads peer go-on =
-        step-silent w v m middle t text said answer answers posted later turn reached stands among hands conv is-answer after is leads
-        (subst (λ (o : Option Text). Replies st g (spoken o v g later) later answers now) takes.0 (subst (λ (z : World). Replies st g (spoken back z g later) later answers now) takes.1 peer))
-    step w v m middle t text (Some u) back x said answer answers posted later turn reached stands among hands conv is-answer takes after is leads peer go-on =
-        step-reply w v m middle t text u back x said answer answers posted later turn reached stands among hands conv is-answer.0 is-answer.1 takes after is leads peer go-on
+    step : (w : World) (m middle : Standing) (t : Told) (text : Text) (said : List Text) (answer : Answered) (answers : List Answered) (posted later : List Text) (turn : Turn)
+        → Reached st a b w → StandsIn st w g m.gateway m.site setup t → Among text w.bag → View st w (opposite g) text said between
+        → AnswersRest w (text ∷ later) (answer ∷ answers) → AfterAnswer s owed m answer middle turn → posted ≡ text ∷ later → AfterAnswers s middle turn answers later new next
+        → ((x : World) → GoesOn x middle later answers) → Walked owed between posted (answer ∷ answers) said
+    step w m middle t text said answer answers posted later turn reached stands among (inl (hands, all)) rest after is leads go-on =
+        let given = takes w between text None later answer answers hands (λ u none. cc none) rest in
+        step-silent w m middle t text said answer answers posted later turn reached stands among hands all given.0 after is leads given.1
+    step w m middle t text said answer answers posted later turn reached stands among (inr (u, v, texts, hands, conv, all)) rest after is leads go-on =
+        let handed = hands-go st a b w (opposite g) text (Some u) v reached among hands in
+        let given = takes w v text (Some u) later answer answers hands (reply-short st a b v (Some u) handed.reached handed.said) rest in
+        step-reply w v m middle t text u texts said answer answers posted later turn reached stands among hands conv all given.0.0 given.0.1 after is leads given.1 go-on
 
     pub walk : (answers : List Answered) (posted : List Text) (text : Text) (w : World) (m : Standing) (t : Told) (said : List Text) → Reached st a b w → StandsIn st w g m.gateway m.site setup t → Among text w.bag
-        → Converses st w (opposite g) text said between → AfterAnswers s m (Posts text owed) answers posted new next → Replies st g w posted answers now → Walked owed between posted answers said
-    walk [] posted text w m t said reached stands among conv leads peer =
+        → Converses st w (opposite g) text said between → AfterAnswers s m (Posts text owed) answers posted new next → AnswersRest w posted answers → Walked owed between posted answers said
+    walk [] posted text w m t said reached stands among conv leads rest =
         let none : length posted ≡ 0 = ap length leads.0 in
         let begins = first-of (view st w (opposite g) text said between conv) in
         let there : PostsNext (Posts text owed) (passed posted []) said = subst (λ (l : List Text). PostsNext (Posts text owed) (passed l []) said) (sym leads.0) begins in
-        let same : now ≡ w = subst (λ (l : List Text). Replies st g w l [] now) leads.0 peer in
+        let here : AnswersRest w [] [] = subst (λ (l : List Text). AnswersRest w l []) leads.0 rest in
         inr (record {
           posts_next = subst (λ (z : Turn). PostsNext z (passed posted []) said) (sym leads.2) there;
           few = omega (arith, none);
-          stands = (t, subst (λ (z : World). StandsIn st z g new.gateway new.site setup t) (sym same) (subst (λ (z : Standing). StandsIn st w g z.gateway z.site setup t) (sym leads.1) stands));
+          now = w;
+          both = record { reached = reached; stands = (t, subst (λ (z : Standing). StandsIn st w g z.gateway z.site setup t) (sym leads.1) stands); other = ends (side_at w (opposite g)) here };
+          heard = λ u o is lacks. never-here (view st w (opposite g) text said between conv) here (subst L (posted-text u text o owed (sym is ∙ leads.2)) lacks);
         })
       where
+        posted-text : (u v : Text) (o p : Bool) → ◌≡◌ {A = Turn} (Posts u o) (Posts v p) → u ≡ v
+        posted-text u v o p e = cc e
+
+        never-here : View st w (opposite g) text said between → AnswersRest w [] [] → L text → ⊥
+        never-here (inl (hands, all)) here lacks = never w between text None hands (λ u none. cc none) here lacks
+        never-here (inr (u, v, texts, hands, conv, all)) here lacks =
+            let handed = hands-go st a b w (opposite g) text (Some u) v reached among hands in
+            never w v text (Some u) hands (reply-short st a b v (Some u) handed.reached handed.said) here lacks
+
         first-of : View st w (opposite g) text said between → (rest : List Text) × (said ≡ text ∷ rest)
         first-of (inl (hands, all)) = ([], all)
         first-of (inr (u, v, texts, hands, rest, all)) = (texts, all)
-    walk (answer ∷ answers) posted text w m t said reached stands among conv leads peer =
-        let here : Replies st g w (text ∷ leads.2) (answer ∷ answers) now = subst (λ (l : List Text). Replies st g w l (answer ∷ answers) now) leads.4 peer in
-        step w here.1 m leads.0 t text here.0 here.2 here.3 said answer answers posted leads.2 leads.1 reached stands among here.4 (view st w (opposite g) text said between conv) here.5 here.6 leads.3 leads.4 leads.5 here.7
-        (λ u2 texts t2 reached' stands' among' conv' leads' peer'. walk answers leads.2 u2 here.3 leads.0 t2 texts reached' stands' among' conv' leads' peer')
+    walk (answer ∷ answers) posted text w m t said reached stands among conv leads rest =
+        let here : AnswersRest w (text ∷ leads.2) (answer ∷ answers) = subst (λ (l : List Text). AnswersRest w l (answer ∷ answers)) leads.4 rest in
+        step w m leads.0 t text said answer answers posted leads.2 leads.1 reached stands among (view st w (opposite g) text said between conv) here leads.3 leads.4 leads.5
+        (λ x u2 texts t2 reached' stands' among' conv' leads' rest'. walk answers leads.2 u2 x leads.0 t2 texts reached' stands' among' conv' leads' rest')

@@ -1,3 +1,4 @@
+pub mod Peer
 pub mod Undisturbed
 pub mod Completing
 pub mod Asks

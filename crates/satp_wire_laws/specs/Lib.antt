@@ -1,0 +1,2 @@
+pub mod TwoEnds
+pub mod Wired

@@ -1,0 +1,10 @@
+pub mod Followed
+pub mod Courses
+pub mod Stages
+pub mod CallLaw
+pub mod OpeningLaw
+pub mod Breaking
+pub mod Gates
+pub mod StopLaw
+pub mod StopCallLaw
+pub mod TextLaw

@@ -1,0 +1,13 @@
+pub mod Hearing
+pub mod Naming
+pub mod Staging
+pub mod Playing
+pub mod Following
+pub mod Keeping
+pub mod Rounding
+pub mod Counting
+pub mod Ending
+pub mod Undisturbed
+pub mod Starting
+pub mod RowsCheck
+pub mod FailedStart

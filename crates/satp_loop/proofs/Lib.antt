@@ -1,0 +1,4 @@
+pub mod Keeping
+pub mod PeerKeeping
+pub mod Stepping
+pub mod Telling

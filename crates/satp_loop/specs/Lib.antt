@@ -1,0 +1,6 @@
+pub mod Mails
+pub mod Peers
+pub mod Lines
+pub mod Following
+pub mod FollowingLaws
+pub mod LineLaws

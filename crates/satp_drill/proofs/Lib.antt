@@ -1,0 +1,4 @@
+pub mod Keeping
+pub mod NamingLemmas
+pub mod CountLemmas
+pub mod OpenLemmas

@@ -1,0 +1,5 @@
+//! Tests of drills.
+#![tactic(auto)]
+
+#[cfg(test)]
+mod drill_tests;

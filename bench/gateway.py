@@ -1,7 +1,7 @@
 """Measures calls of a gateway over a site in memory. bench/README.md says what is measured.
 
     gateway.py PROGRAM CALLS ROUNDS
-    gateway.py yardstick CALL COUNT      makes so many steps of the yardstick, and prints their seconds
+    gateway.py yardstick CALL COUNT      makes so many steps of the yardstick
 """
 
 import base64

@@ -1,18 +1,13 @@
 #!/usr/bin/env bash
 # Requests taken per second from a long stream in pieces of 1, 64 and 4,096 bytes, beside node's HTTP parser in the same
-# run. Each is the best of three runs in turn. Skipped where node is missing. bench/README.md says what is measured.
-set -eu
-cd "$(dirname "$0")/.."
-
-if ! command -v node >/dev/null; then
-    echo "bench/http: skipped, no node"
-    exit 0
-fi
+# run. Each is the best of three runs in turn. bench/README.md says what is measured.
+. "$(dirname "${BASH_SOURCE[0]}")/../.ci/prepare.sh"
+needs node
+make_program satp_driver
+make_folder
 
 driver=crates/satp_driver/out/satp_driver
-(cd crates/satp_driver && rt run -- requests 1 </dev/null >/dev/null 2>&1)
-stream=$(mktemp)
-trap 'rm -f "$stream"' EXIT
+stream=$folder/stream
 
 # The seconds that the driver takes for the stream.
 ours() {

@@ -1,11 +1,10 @@
 """Fills two gateways over sites in memory with sessions, and compares each answer of the program with a plain reading of docs/FORMATS.md."""
 
-import base64
 import hashlib
-import hmac
-import json
 import subprocess
 import sys
+
+import formats
 
 MOST = 2048
 KEY = bytes(range(32))
@@ -18,29 +17,18 @@ SETUPS = [
 FULL = "Full { count: 2048 }"
 
 
-def encoded(data):
-    return base64.urlsafe_b64encode(data).rstrip(b"=").decode()
+def begun(session, origin, recipient, owner, receiver):
+    """The proposal and the receipt of a session."""
+    terms = formats.terms(1, "gold", owner, receiver)
+    return formats.transfer(session, origin, recipient, KEY, terms, formats.CHAIN[:2]).texts
 
 
-def signed(message):
-    payload = json.dumps(message, sort_keys=True, separators=(",", ":")).encode()
-    text = encoded(b'{"alg":"HS256"}') + "." + encoded(payload)
-    return text + "." + encoded(hmac.new(KEY, text.encode(), hashlib.sha256).digest())
+def begun_by_alpha(number):
+    return begun(f"alpha.{number}", "alpha", "beta", "ann", "bob")
 
 
-def message(kind, number, sender, receiver, **members):
-    session = f"alpha.{number}"
-    return signed({"kind": kind, "receiver": receiver, "sender": sender, "session": session, "version": 1, **members})
-
-
-def proposal(number):
-    terms = {"amount": 1, "asset": "gold", "beneficiary": "bob", "originator": "ann"}
-    return message("transfer-proposal", number, "alpha", "beta", previous="A" * 43, sequence=1, terms=terms)
-
-
-def receipt(number):
-    previous = encoded(hashlib.sha256(proposal(number).encode()).digest())
-    return message("proposal-receipt", number, "beta", "alpha", previous=previous, sequence=2)
+def begun_by_beta():
+    return begun("beta.1", "beta", "alpha", "bob", "ann")
 
 
 class Case:
@@ -67,47 +55,36 @@ def started(number):
 
 def full_of_starts():
     case = Case()
-    for number in range(1, MOST + 1):
-        case.says(started(number), "transfer-proposal", proposal(number))
+    proposals = {number: begun_by_alpha(number)[0] for number in range(1, MOST + 1)}
+    for number, proposal in proposals.items():
+        case.says(started(number), "transfer-proposal", proposal)
     case.ask("a count", str(4 * MOST))
     case.ask(started(MOST + 1), FULL)
     case.ask(started(1), "Exists")
     case.ask("a count", "0")
     case.ask("a open", "done")
     case.ask(started(MOST + 1), FULL)
-    case.says(f"a work alpha.{MOST}", "transfer-proposal", proposal(MOST))
+    case.says(f"a work alpha.{MOST}", "transfer-proposal", proposals[MOST])
     # The other role has room.
-    case.says("b start beta.1 1 gold bob ann", "transfer-proposal", mirrored())
-    case.says(f"a hear {case.said}", "proposal-receipt", mirrored_receipt())
+    proposal, receipt = begun_by_beta()
+    case.says("b start beta.1 1 gold bob ann", "transfer-proposal", proposal)
+    case.says(f"a hear {case.said}", "proposal-receipt", receipt)
     return case
-
-
-def mirrored_message(kind, sender, receiver, **members):
-    return signed({"kind": kind, "receiver": receiver, "sender": sender, "session": "beta.1", "version": 1, **members})
-
-
-def mirrored():
-    terms = {"amount": 1, "asset": "gold", "beneficiary": "ann", "originator": "bob"}
-    return mirrored_message("transfer-proposal", "beta", "alpha", previous="A" * 43, sequence=1, terms=terms)
-
-
-def mirrored_receipt():
-    previous = encoded(hashlib.sha256(mirrored().encode()).digest())
-    return mirrored_message("proposal-receipt", "alpha", "beta", previous=previous, sequence=2)
 
 
 def full_of_proposals():
     case = Case()
+    texts = {number: begun_by_alpha(number) for number in range(1, MOST + 2)}
     for number in range(1, MOST + 1):
-        case.says(f"b text {proposal(number)}", "proposal-receipt", receipt(number))
+        case.says(f"b text {texts[number][0]}", "proposal-receipt", texts[number][1])
     case.ask("b count", str(8 * MOST))
-    case.ask(f"b text {proposal(MOST + 1)}", FULL)
+    case.ask(f"b text {texts[MOST + 1][0]}", FULL)
     case.ask("b count", "0")
     # What the gateway has is answered, and it may start sessions of its own.
-    case.says(f"b text {proposal(1)}", "proposal-receipt", receipt(1))
+    case.says(f"b text {texts[1][0]}", "proposal-receipt", texts[1][1])
     case.ask("b open", "done")
-    case.ask(f"b text {proposal(MOST + 1)}", FULL)
-    case.says("b start beta.1 1 gold bob ann", "transfer-proposal", mirrored())
+    case.ask(f"b text {texts[MOST + 1][0]}", FULL)
+    case.says("b start beta.1 1 gold bob ann", "transfer-proposal", begun_by_beta()[0])
     return case
 
 

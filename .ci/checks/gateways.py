@@ -165,6 +165,10 @@ class Gateway:
         """`show`, `abort`, `resume` or `recover`."""
         return self.run(command, {"session": session}, **streams)
 
+    def replay(self, image=None, **streams):
+        """`replay` of the gateway's journal, or of these bytes."""
+        return self.words_as_they_are(["replay"], **({"input": read(self.at("journal-a")) if image is None else image} | streams))
+
     def begin(self, command, **options):
         """A command that runs meanwhile."""
         return Running(self.words(command, **options))

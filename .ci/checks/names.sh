@@ -1,6 +1,6 @@
 #!/usr/bin/env bash
-# Each file, law, function, definition and wrong body that docs/INDEX.md and docs/PROVED.md name is there.
-set -eu
-cd "$(dirname "$0")/../.."
-command -v python3 >/dev/null || { echo "names: skipped, there is no python3"; exit 0; }
-exec python3 .ci/checks/names.py
+# Each file, law, function, definition and wrong body that docs/INDEX.md and docs/PROVED.md name is there, and in the index each in its file.
+. "$(dirname "${BASH_SOURCE[0]}")/../prepare.sh"
+needs python3
+
+python3 .ci/checks/names.py

@@ -1,6 +1,5 @@
 """Compares the driver's `sign` and `verify` with Python's hmac, and with joserfc where it can be imported."""
 
-import os
 import random
 import subprocess
 import sys
@@ -13,8 +12,7 @@ try:
 except ImportError:
     joserfc_jws = None
 
-DRIVER = "crates/satp_driver"
-PROGRAM = f"{DRIVER}/out/satp_driver"
+PROGRAM = sys.argv[1]
 COUNT = 300
 HEADERS = [
     b'{"alg":"HS256"}',
@@ -31,12 +29,6 @@ REFUSED_HEADERS = [
     b'["alg","HS256"]',
     b'{"alg":"HS256"',
 ]
-
-
-def build():
-    """Makes the driver, where the gate hasn't made it just before."""
-    if not os.access(PROGRAM, os.X_OK):
-        subprocess.run(["rt", "run", "--", "verify"], cwd=DRIVER, stdin=subprocess.DEVNULL, capture_output=True)
 
 
 def drive(mode, lines):

@@ -1,11 +1,7 @@
 #!/usr/bin/env bash
-# Signs and verifies random payloads beside another implementation, both ways: Python's hmac, and joserfc where it is
-# installed. Skipped where python3 is missing.
-set -u
-cd "$(dirname "$0")/../.." || exit 1
+# Signs and verifies random payloads beside another implementation, both ways: Python's hmac, and joserfc where it is installed.
+. "$(dirname "${BASH_SOURCE[0]}")/../prepare.sh"
+needs python3
+has_program satp_driver
 
-if ! command -v python3 >/dev/null; then
-    echo "signatures: skipped, no python3"
-    exit 0
-fi
-exec python3 .ci/checks/signatures.py
+python3 .ci/checks/signatures.py crates/satp_driver/out/satp_driver

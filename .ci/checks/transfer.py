@@ -118,6 +118,38 @@ def once_more(alpha, beta):
     want("whether a whole session is left as it is", after == before, True)
 
 
+def replays(alpha, beta):
+    """What `replay` prints of both journals of the transfer, of a part of one, and of what is none."""
+    lines = lambda *texts: done("\n".join(texts))
+    want("replay at alpha", alpha.replay(), lines("gateway alpha peer beta", "alpha.1 origin committed 11", "records 15"))
+    want("replay at beta", beta.replay(), lines("gateway beta peer alpha", "alpha.1 recipient committed 11", "records 14"))
+    payloads, rescue = alpha.payloads(), bytes.fromhex("01000b0605616c7068610000000100")
+    first = lambda count: alpha.replay(formats.journal(payloads[:count]))
+    want("replay of a set-up", first(1), lines("gateway alpha peer beta", "records 1"))
+    want("replay of three records", first(3), lines("gateway alpha peer beta", "alpha.1 origin open 2", "records 3"))
+    missing = formats.journal(payloads[:3] + payloads[4:])
+    for image, line in (
+        (b"", "log empty"),
+        (b"\x00", "log empty"),
+        (b"\x01", "log empty"),
+        (rescue[:6], "log damaged at 0"),
+        (rescue[:14], "log damaged at 0"),
+        (rescue, "record 0 refused"),
+        (missing, "record 3 refused"),
+        (missing[:-1] + b"\x01\x00", f"log damaged at {len(missing) - 1}"),
+    ):
+        want(f"replay of {image[-20:].hex()}", alpha.replay(image), refused(5, line))
+    if os.path.exists("/dev/zero"):
+        # An input without an end: it is read to the first byte past 134,217,728.
+        with open("/dev/zero", "rb") as endless:
+            want("replay of an input without an end", alpha.words_as_they_are(["replay"], stdin=endless), refused(5, "input too long"))
+    if os.path.exists("/dev/full"):
+        with open("/dev/full", "wb") as full:
+            want("a full output of replay", alpha.replay(stdout=full), (11, None, b"satp: output failed\n"))
+    for given in (["journal-a"], ["--dir", "d"], ["--help"], [""]):
+        want(f"replay with {given}", alpha.words_as_they_are(["replay", *given]), refused(2, "words refused"))
+
+
 def other_way():
     """Beta, whose ledger is of outputs, begins: outputs 1 and 2 are taken, and output 4 is the change."""
     alpha, beta = PAIRS.fresh()
@@ -472,6 +504,7 @@ def full_gateway():
 def main():
     alpha, beta = whole()
     history = History(alpha, beta)
+    replays(alpha, beta)
     once_more(alpha, beta)
     other_way()
     all_and_more()

@@ -5,15 +5,13 @@ values here are many: both ends of each range, and what lies between.
 """
 
 import json
-import os
 import random
 import subprocess
 import sys
 
 from formats import CHAIN, NO_LINK, canonical, encoded, link, signed
 
-DRIVER = "crates/satp_driver/out/satp_driver"
-PROGRAM = "crates/satp/out/satp"
+DRIVER, PROGRAM = sys.argv[1:]
 REASONS = ["unknown-asset", "mint-capped", "aborted", "ledger-taken"]
 NAME_BYTES = "abcdefghijklmnopqrstuvwxyz0123456789-"
 ENTRY_BYTES = "ABCDEFGHIJKLMNOPQRSTUVWXYZabcdefghijklmnopqrstuvwxyz0123456789-_."
@@ -291,16 +289,7 @@ def check_schedules(check, draw):
     check.drive("schedules", [f"{seed} {';'.join(schedule(seed))}" for seed in seeds], ["same"] * len(seeds))
 
 
-def build(path, words):
-    """Makes a program, where the gate hasn't made it just before."""
-    if not os.access(path, os.X_OK):
-        folder = os.path.dirname(os.path.dirname(path))
-        subprocess.run(["rt", "run", "--", *words], cwd=folder, stdin=subprocess.DEVNULL, capture_output=True)
-
-
 def main():
-    build(DRIVER, ["texts"])
-    build(PROGRAM, ["check"])
     check, draw = Check(), Draw(8785)
     check_texts(check, draw)
     check_answers(check, draw)

@@ -1,11 +1,8 @@
 #!/usr/bin/env bash
 # Runs the drivers and the built program over some thousand random values beside a plain reading of the formats: texts,
-# signatures, chains, records, schedules. Skipped where python3 is missing.
-set -u
-cd "$(dirname "$0")/../.." || exit 1
+# signatures, chains, records, schedules.
+. "$(dirname "${BASH_SOURCE[0]}")/../prepare.sh"
+needs python3
+has_program satp_driver satp
 
-if ! command -v python3 >/dev/null; then
-    echo "values: skipped, no python3"
-    exit 0
-fi
-exec python3 .ci/checks/values.py
+python3 .ci/checks/values.py crates/satp_driver/out/satp_driver crates/satp/out/satp

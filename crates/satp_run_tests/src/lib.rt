@@ -1,6 +1,10 @@
-//! Tests of gateways that are set up at a site in memory, by the program's `run` and by the call below it.
+//! Tests of gateways that are set up at a site in memory, by the program's `run` and by the call below it, and of runs of `replay`.
 #![tactic(auto)]
 
+#[cfg(test)]
+mod replay_tests;
+#[cfg(test)]
+mod replays;
 #[cfg(test)]
 mod set_up_tests;
 #[cfg(test)]

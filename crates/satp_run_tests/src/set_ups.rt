@@ -13,7 +13,7 @@ use std::alloc::Global;
 const GENESIS: &[u8] = b"asset gold 1000000\nhold gold ann 1000\n";
 
 /// The journal of alpha after its set-up: an open gate, a length of 60, the record, and a closed gate.
-const JOURNAL: &[u8] =
+pub const JOURNAL: &[u8] =
     b"\x01\x00\x3c\x00\x05alpha\x04beta\x0e127.0.0.1:7002\x20\x00\x01\x02\x03\x04\x05\x06\x07\x08\x09\x0a\x0b\x0c\x0d\x0e\x0f\x10\x11\x12\x13\x14\x15\x16\x17\x18\x19\x1a\x1b\x1c\x1d\x1e\x1f\x00";
 
 /// An open gate without a whole record after it.
@@ -121,7 +121,7 @@ fn init_words(alloc: Global, kind: LedgerKind) -> Result<Texts, Memory> {
     Ok(words)
 }
 
-fn push_word(alloc: Global, words: &mut Texts, word: &str) -> Result<(), Memory> {
+pub fn push_word(alloc: Global, words: &mut Texts, word: &str) -> Result<(), Memory> {
     let text = Text::copy(alloc, word.as_bytes())?;
     match words.push(text) {
         Ok(()) => Ok(()),

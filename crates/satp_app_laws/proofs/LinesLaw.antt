@@ -80,13 +80,13 @@ says committed s n before after outcome driven quiet is tells = says-by committe
 
 -- ---- the first call is answered
 
-not-refused : (s : SessionId) (r : Refused) (outcome : Outcome) (before after : ℕ) → MayRefuse r → Tested None (Err r) → RefusalCounts before after r → ¬ Rose before after → outcome ≢ Memory → outcome ≡ outcome_of_refusal s r → ⊥
-not-refused s refused.Exists outcome before after may (refusal, e, is) counts quiet memory ends = none-some e
-not-refused s (refused.Full count) outcome before after may (refusal, e, is) counts quiet memory ends = none-some e
-not-refused s (refused.Strange named) outcome before after may (refusal, e, is) counts quiet memory ends = none-some e
-not-refused s refused.Site outcome before after may tested counts quiet memory ends = quiet (counts.cause refl)
-not-refused s refused.Memory outcome before after may tested counts quiet memory ends = memory ends
-not-refused s _ outcome before after may tested counts quiet memory ends = absurd may
+not-refused : (call : Call) (s : SessionId) (r : Refused) (outcome : Outcome) (before after : ℕ) → MayRefuse r → Tested call None (Err r) → RefusalCounts before after r → ¬ Rose before after → outcome ≢ Memory → outcome ≡ outcome_of_refusal s r → ⊥
+not-refused call s refused.Exists outcome before after may (refusal, e, is) counts quiet memory ends = none-some e
+not-refused call s (refused.Full count) outcome before after may (refusal, e, is) counts quiet memory ends = none-some e
+not-refused call s (refused.Strange named) outcome before after may (refusal, e, is) counts quiet memory ends = none-some e
+not-refused call s refused.Site outcome before after may tested counts quiet memory ends = quiet (counts.cause refl)
+not-refused call s refused.Memory outcome before after may tested counts quiet memory ends = memory ends
+not-refused call s _ outcome before after may tested counts quiet memory ends = absurd may
 
 module _ (st : Setting) (a b : Founding) (g : Gateway) (w : World) (setup : Setup) (t : Told) (peer : Side) (call : Call) (state : GatewayState) (before after : OutsideState) (outcome : Outcome) (work : DriveWorks call state before after outcome) where
   -- no test of it holds over the records of the side
@@ -94,7 +94,7 @@ module _ (st : Setting) (a b : Founding) (g : Gateway) (w : World) (setup : Setu
       → (r : Refused) → MayRefuse r → Drove call state before after (Err r) → outcome ≡ outcome_of_refusal (session_of call) r → ⊥
   unrefused quiet none r may drove ends =
       let tested = drove.drives.0.answers.tests setup (side_at w g).records quiet.stands.at.holds in
-      not-refused (session_of call) r outcome before.site.faults after.site.faults may (subst (λ (o : Option Refusal). Tested o (Err r)) none tested) drove.site_counts quiet.site quiet.memory ends
+      not-refused call (session_of call) r outcome before.site.faults after.site.faults may (subst (λ (o : Option Refusal). Tested call o (Err r)) none tested) drove.site_counts quiet.site quiet.memory ends
 
 named-slot : (s : SessionId) (xs : List Stored) (v : View) → view_in s xs ≡ Some v → negate (is_some (slot_in s xs)) ≡ false
 named-slot s xs v e = ap (λ (o : Option View). negate (is_some (option_map (λ (x : View). slot x (chain_in s xs)) o))) e

@@ -14,7 +14,7 @@ use Rattle.satp_base.specs.declared.verdict.Verdict.{Verdict}
 use Rattle.satp_base.specs.declared.verdict.Verdict.TheVariants as verdict
 use Rattle.satp_chain.specs.declared.signed.Signed.{Signed}
 use Rattle.satp_sides.specs.Calls as call
-use Rattle.satp_sides.specs.Calls.{Call, Refusal, Hears, IsOwn, Run, again_reply, body_refusal, first_refusal, heard, heard_as, is_full, is_misaddressed, is_named, is_next, is_strange, named, refusal_of, run_of, runs, test, unfit, verdict_in, would_take}
+use Rattle.satp_sides.specs.Calls.{Refusal, Hears, IsOwn, Run, again_reply, body_refusal, first_refusal, heard, heard_as, is_full, is_misaddressed, is_named, is_next, is_strange, named, refusal_of, run_of, runs, test, unfit, verdict_in, would_take}
 use Rattle.satp_sides.specs.Logs.{IsLog}
 use Rattle.satp_sides.specs.Points.{Party, Side, Slot, Stored, Text, most_sessions, slot_in}
 use Rattle.satp_points.specs.Deciding.{Decided, DecidesOver, IsDecisionOf, RefusesAs}
@@ -33,21 +33,21 @@ use Rattle.satp_decisions.proofs.Slots.{accepted-run, one-slot, run-nothing, slo
 use Rattle.satp_decisions.proofs.TakeLemmas.{comes-as}
 
 -- a refusal is an answer
-pub refused-over : (p : Party) (xs : List Stored) (c : Call) (r : Refused) → RefusesAs (refusal_of p xs c) r → DecidesOver p xs c (Err r)
-refused-over p xs c refused.Memory k = tt
-refused-over p xs c refused.Broken k = k
-refused-over p xs c (refused.Size n) k = k
-refused-over p xs c (refused.Jws f) k = k
-refused-over p xs c refused.Header k = k
-refused-over p xs c (refused.Body f) k = k
-refused-over p xs c refused.Receiver k = k
-refused-over p xs c (refused.Strange s) k = k
-refused-over p xs c (refused.Chain v) k = k
-refused-over p xs c (refused.Recovery f) k = k
-refused-over p xs c (refused.Full n) k = k
-refused-over p xs c refused.Exists k = k
-refused-over p xs c (refused.TooLate n) k = k
-refused-over p xs c refused.Site k = k
+pub refused-over : (p : Party) (xs : List Stored) (m : Message) (t : Text) (e : Option Message) (r : Refused) → RefusesAs (refusal_of p xs (Hears m t e)) r → DecidesOver p xs (Hears m t e) (Err r)
+refused-over p xs m t e refused.Memory k = tt
+refused-over p xs m t e refused.Broken k = k
+refused-over p xs m t e (refused.Size n) k = k
+refused-over p xs m t e (refused.Jws f) k = k
+refused-over p xs m t e refused.Header k = k
+refused-over p xs m t e (refused.Body f) k = k
+refused-over p xs m t e refused.Receiver k = k
+refused-over p xs m t e (refused.Strange s) k = k
+refused-over p xs m t e (refused.Chain v) k = k
+refused-over p xs m t e (refused.Recovery f) k = k
+refused-over p xs m t e (refused.Full n) k = k
+refused-over p xs m t e refused.Exists k = k
+refused-over p xs m t e (refused.TooLate n) k = k
+refused-over p xs m t e refused.Site k = k
 
 -- the tests of a body
 abbrev pub body_tests : Party → List Stored → Message → Text → Option Message → Body → Option Refusal

@@ -3,11 +3,11 @@ ghost use Rattle.std.specs.Prelude.{◌≡◌, false, Some, is_some, option_map,
 ghost use Rattle.satp_drill.specs.Ends.{IsOpen};
 ghost use Rattle.satp_journal.specs.State.{Fits};
 ghost use Rattle.satp_memory.specs.Steps.{told_of};
-ghost use Rattle.satp_points.specs.States.{GateWithin, is_broken};
+ghost use Rattle.satp_points.specs.States.{is_broken};
 
 use crate::pending::SiteTrouble;
 use satp_base::{LedgerCore, Memory};
-use satp_gateway::{Gateway, Refused};
+use satp_gateway::Gateway;
 use satp_memory::MemSite;
 use std::alloc::Global;
 
@@ -48,21 +48,13 @@ fn has_ledger<C: LedgerCore>(site: &MemSite<C>) -> bool
 /// A side that has stopped, or whose gateway is broken, is restarted, and its gateway opened again.
 #[tactic(auto, using(crate::proofs::Keeping::within_from, crate::proofs::Keeping::fits_from))]
 pub(crate) fn ready<C: LedgerCore>(alloc: Global, place: Place<C>) -> Result<Place<C>, Memory> {
-    let mut gateway = place.gateway;
+    let gateway = place.gateway;
     let mut site = place.site;
-    if site.is_stopped() || is_broken(alloc, &mut gateway, &mut site) {
+    if site.is_stopped() || gateway.is_broken() {
         site.restart()?;
         return open(alloc, site);
     }
     Ok(Place { gateway, site })
-}
-
-/// Whether the gateway is broken. It is asked by an empty body, which is no message's.
-fn is_broken<C: LedgerCore>(alloc: Global, gateway: &mut Gateway, site: &mut MemSite<C>) -> bool
-    requires within { is_broken gateway.old ≡ false → GateWithin gateway.old (Some (told_of site.old.disk)) }
-    ensures within { is_broken gateway.new ≡ false → GateWithin gateway.new (Some (told_of site.new.disk)) }
-{
-    matches!(gateway.handle(alloc, site, b""), Err(Refused::Broken))
 }
 
 /// Lets a side stop in the command to come, or a call on its site fail.

@@ -101,7 +101,7 @@ module _ (s : SessionId) (owed : Bool) (b : Standing) (a : Standing) (turn : Tur
         (plain [] (Ends (end.Refused (refused_as refusal))) b setup side t a turn (ap (λ (q : Refused). Ends (end.Refused q)) (sym is) ∙ sym turn_is) (stays_goes b a setup side t at stays) (λ site. subst IsSite turn_is site))
 
     run_done : (Late : Type 0) (result : Result Reply Refused) → RunAnswers (run_of (party_of setup) side call) b.gateway setup side t b.site a.gateway a.site (reply_of result)
-        → Tested (refusal_of (party_of setup) side.records call) (reply_of result) → Unchanged Late b.gateway a.gateway b.site a.site (reply_of result) → Breaking b.gateway a.gateway (reply_of result)
+        → Tested call (refusal_of (party_of setup) side.records call) (reply_of result) → Unchanged Late b.gateway a.gateway b.site a.site (reply_of result) → Breaking b.gateway a.gateway (reply_of result)
         → AfterHandling s owed a.gateway result turn → Done (run_of (party_of setup) side call)
     run_done Late (Ok reply) answers tested still breaking after = replied_done (run_of (party_of setup) side call) (text_in reply) answers.0 after answers.1
     run_done Late (Err Broken) answers tested still breaking after = absurd (not_broken b.gateway at.whole (breaking.answered refl))

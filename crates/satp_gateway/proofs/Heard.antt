@@ -156,9 +156,9 @@ unchanged-by A B old new before site (Err Memory) f (inr h) = inr (f h)
 unchanged-by A B old new before site (Err r) f h = h
 
 -- want of memory while a text is read
-pub memory-answers : (call : Call) (g : GatewayState) (log : LogState) (site : Tells) → Logs g log → HoldsSome g → is_broken g ≡ false → Answers call g g site site (Err Memory)
-memory-answers call g log site logs some whole = refused call g log Memory site logs some whole (λ setup xs h formed is. tt)
+pub memory-answers : (m : Message) (t : Text) (e : Option Message) (g : GatewayState) (log : LogState) (site : Tells) → Logs g log → HoldsSome g → is_broken g ≡ false → Answers (Hears m t e) g g site site (Err Memory)
+memory-answers m t e g log site logs some whole = refused (Hears m t e) g log Memory site logs some whole (λ setup xs h formed is. tt)
 
 -- a text that a message was composed as is heard as that message, or no memory was found
-pub unheard-memory : (call : Call) (g : GatewayState) (log : LogState) (site : Tells) (fault : Unheard) → Logs g log → HoldsSome g → is_broken g ≡ false → fault ≡ unheard.Memory → Answers call g g site site (Err (unheard_as fault))
-unheard-memory call g log site fault logs some whole e = subst (λ f. Answers call g g site site (Err (unheard_as f))) (sym e) (memory-answers call g log site logs some whole)
+pub unheard-memory : (m : Message) (t : Text) (e : Option Message) (g : GatewayState) (log : LogState) (site : Tells) (fault : Unheard) → Logs g log → HoldsSome g → is_broken g ≡ false → fault ≡ unheard.Memory → Answers (Hears m t e) g g site site (Err (unheard_as fault))
+unheard-memory m t e g log site fault logs some whole is = subst (λ f. Answers (Hears m t e) g g site site (Err (unheard_as f))) (sym is) (memory-answers m t e g log site logs some whole)

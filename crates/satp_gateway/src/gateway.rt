@@ -105,6 +105,13 @@ impl Gateway {
         }
     }
 
+    /// Whether a call on the site has failed. The gateway answers `Broken` then, and has to be opened again.
+    pub fn is_broken(&self) -> bool
+        ensures { result ≡ is_broken self.now }
+    {
+        self.register.is_broken()
+    }
+
     /// What the gateway was set up with.
     pub fn setup(&self) -> &Setup
         ensures { (setup : TheSetup) (xs : List Stored) → Holds self.now setup xs → result.now ≡ setup }

@@ -13,8 +13,8 @@ use Rattle.satp_sides.specs.Moves.Sayable.{Own_text, Recovers, Updates, Succeeds
 use Rattle.satp_sides.specs.Others.{AreOf, session_of}
 use Rattle.satp_sides.specs.Points.{Party, Side, Stored, Text}
 use Rattle.satp_sides.specs.Points.Move.{Appends}
-use Rattle.satp_points.specs.Answers.{GrowsBy, RunAnswers, SaysOnly, Tested, Unchanged, WritesLast, heard_in, refused_as}
-use Rattle.satp_points.specs.Deciding.{BrokenAnswers, Decides, DecidesAt, DecidesOver, DoneAnswers, IsDecisionOf, IsDone, KeepsMore, RefusalAnswers, WritesLate}
+use Rattle.satp_points.specs.Answers.{GrowsBy, RunAnswers, SaysOnly, Tested, TestedBefore, Unchanged, WritesLast, heard_in, refused_as}
+use Rattle.satp_points.specs.Deciding.{BrokenAnswers, Decides, DecidesAt, DecidesOver, DoneAnswers, IsDecisionOf, IsDone, KeepsMore, MayLackMemory, RefusalAnswers, WritesLate}
 use Rattle.satp_points.specs.States.{GatewayState, Holds, Tells}
 use Rattle.satp_points.specs.declared.decision.Decision.{Decision}
 use Rattle.satp_points.specs.declared.decision.Decision.TheVariants.{Gives, Works}
@@ -41,11 +41,15 @@ says-more p xs heard (Err r) h = tt
 
 -- ---- carried out
 
-done-tested : (test : Option Refusal) (result : Result (Option Text) Refused) → test ≡ None → IsDone result → Tested test result
-done-tested test (Ok reply) e h = e
-done-tested test (Err Site) e h = e
-done-tested test (Err Memory) e h = tt
-done-tested test (Err r) e h = absurd h
+tested-before : (call : Call) (test : Option Refusal) → test ≡ None → TestedBefore call test
+tested-before (call.Hears m t e) test is = tt
+tested-before call test is = is
+
+done-tested : (call : Call) (test : Option Refusal) (result : Result (Option Text) Refused) → test ≡ None → IsDone result → Tested call test result
+done-tested call test (Ok reply) e h = e
+done-tested call test (Err Site) e h = e
+done-tested call test (Err Memory) e h = tested-before call test e
+done-tested call test (Err r) e h = absurd h
 
 writes-last : (p : Party) (xs : List Stored) (call : Call) (d : Decision) → IsDecisionOf p xs call d → WritesLate d → WritesLast call
 writes-last p xs call (Gives reply) of h = absurd h
@@ -72,7 +76,7 @@ grows-by call (Works s first reply) setup xs new result of given (ys, holds, all
 
 pub done-answers : DoneAnswers
 done-answers call d setup xs old new before site result whole holds decides done = record {
-  tests = λ setup' xs' holds'. done-tested (refusal_of (party_of setup') xs' call) result (decides setup' xs' holds').accepted done.only;
+  tests = λ setup' xs' holds'. done-tested call (refusal_of (party_of setup') xs' call) result (decides setup' xs' holds').accepted done.only;
   run = λ setup' side t at.
       subst (λ (run : Run). RunAnswers run old setup' side t before new site result) (sym ((decides setup' side.records at.holds).comes_to side refl)) (done.run setup' side t at);
   unchanged = unchanged-by (WritesLate d) _ old new before site result (writes-last (party_of setup) xs call d (decides setup xs holds).of_call) done.unchanged;
@@ -106,8 +110,12 @@ never-site (call.Recovery fault) e = cc e
 never-site (call.TooLate place) e = cc e
 never-site (call.Full count) e = cc e
 
-refused-tested : (p : Party) (xs : List Stored) (call : Call) (r : Refused) → DecidesOver p xs call (Err r) → Tested (refusal_of p xs call) (Err r)
-refused-tested p xs call Memory h = tt
+lacked-before : (call : Call) (test : Option Refusal) → MayLackMemory call → TestedBefore call test
+lacked-before (call.Hears m t e) test may = tt
+lacked-before call test may = absurd may
+
+refused-tested : (p : Party) (xs : List Stored) (call : Call) (r : Refused) → DecidesOver p xs call (Err r) → Tested call (refusal_of p xs call) (Err r)
+refused-tested p xs call Memory h = lacked-before call (refusal_of p xs call) h
 refused-tested p xs call Broken h = tt
 refused-tested p xs call Site h = absurd (never-site h.0 h.2)
 refused-tested p xs call r h = h

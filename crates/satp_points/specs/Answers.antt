@@ -25,13 +25,21 @@ refused_as (call.Recovery fault) = Recovery fault
 refused_as (call.TooLate place) = TooLate place
 refused_as (call.Full count) = Full count
 
+-- The tests of an operator's call look at the records alone, so that want of memory comes only where none of them holds. A message has to be read before it can be tested.
+abbrev pub TestedBefore : Call → Option Refusal → Type 0
+TestedBefore (call.Starts s terms) test = test ≡ None
+TestedBefore (call.Works s) test = test ≡ None
+TestedBefore (call.Aborts s) test = test ≡ None
+TestedBefore (call.Rescues s) test = test ≡ None
+TestedBefore (call.Hears m t e) test = Unit {0}
+
 -- Whatever a site tells: the call is refused by the first test that holds, and it is answered, or has called the site, only where none does.
-abbrev pub Tested : Option Refusal → Result (Option Text) Refused → Type 0
-Tested test (Ok reply) = test ≡ None
-Tested test (Err Site) = test ≡ None
-Tested test (Err Broken) = Unit {0}
-Tested test (Err Memory) = Unit {0}
-Tested test (Err r) = (refusal : Refusal) × (test ≡ Some refusal) × (r ≡ refused_as refusal)
+abbrev pub Tested : Call → Option Refusal → Result (Option Text) Refused → Type 0
+Tested call test (Ok reply) = test ≡ None
+Tested call test (Err Site) = test ≡ None
+Tested call test (Err Broken) = Unit {0}
+Tested call test (Err Memory) = TestedBefore call test
+Tested call test (Err r) = (refusal : Refusal) × (test ≡ Some refusal) × (r ≡ refused_as refusal)
 
 -- ---- at a site that the gateway fits
 
@@ -111,7 +119,7 @@ GrowsBy call setup xs new result =
 
 -- What a call answers. `run` holds at a site that the gateway fits, all else at any site.
 pub record Answers (call : Call) (old new : GatewayState) (before site : Tells) (result : Result (Option Text) Refused) : Type 0 where
-  pub tests : (setup : Setup) (xs : List Stored) → Holds old setup xs → Tested (refusal_of (party_of setup) xs call) result
+  pub tests : (setup : Setup) (xs : List Stored) → Holds old setup xs → Tested call (refusal_of (party_of setup) xs call) result
   pub run : (setup : Setup) (side : Side) (t : Told) → IsAt old before setup side t → RunAnswers (run_of (party_of setup) side call) old setup side t before new site result
   pub unchanged : Unchanged (WritesLast call) old new before site result
   pub breaking : Breaking old new result

@@ -65,9 +65,17 @@ pub record Decided (p : Party) (xs : List Stored) (call : Call) (d : Decision) :
 abbrev pub RefusesAs : Option Refusal → Refused → Type 0
 RefusesAs test r = (refusal : Refusal) × (test ≡ Some refusal) × (r ≡ refused_as refusal)
 
+-- only a message needs memory before it is decided
+abbrev pub MayLackMemory : Call → Type 0
+MayLackMemory (call.Starts s terms) = ⊥
+MayLackMemory (call.Works s) = ⊥
+MayLackMemory (call.Aborts s) = ⊥
+MayLackMemory (call.Rescues s) = ⊥
+MayLackMemory (call.Hears m t e) = Unit {0}
+
 abbrev pub DecidesOver : Party → List Stored → Call → Result Decision Refused → Type 0
 DecidesOver p xs call (Ok d) = Decided p xs call d
-DecidesOver p xs call (Err Memory) = Unit {0}
+DecidesOver p xs call (Err Memory) = MayLackMemory call
 DecidesOver p xs call (Err r) = RefusesAs (refusal_of p xs call) r
 
 -- Over the records that a log holds. The gateway's name isn't its peer's, so that the peer's places in a chain aren't its own.

@@ -36,7 +36,7 @@ module _ (call : Call) (old new : GatewayState) (before site : Tells) (setup : S
       )
 
   by-result : (Late : Type 0) (result : Result (Option Text) Refused) → RunAnswers (run_of (party_of setup) side call) old setup side t before new site result
-      → Tested (refusal_of (party_of setup) side.records call) result → Unchanged Late old new before site result → Breaking old new result → IsAnswered result → Steps (party_of setup) result
+      → Tested call (refusal_of (party_of setup) side.records call) result → Unchanged Late old new before site result → Breaking old new result → IsAnswered result → Steps (party_of setup) result
   by-result Late (Ok reply) answers tested still breaking ok = (answers.1, answers.0)
   by-result Late (Err Broken) answers tested still breaking ok = absurd (broken-no-more old at.whole (breaking.answered refl))
   by-result Late (Err (Size n)) answers tested still breaking ok = by-refusal (Size n) tested still

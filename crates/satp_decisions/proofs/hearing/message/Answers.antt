@@ -1,5 +1,4 @@
 use Rattle.satp_log.specs.Journals.{party_of}
-use Rattle.satp_sides.specs.Calls.{Hears}
 use Rattle.satp_decisions.proofs.HearLemmas.{address-first, refused-over}
 use Rattle.satp_decisions.proofs.hearing.message.Goals as goal
 
@@ -10,4 +9,4 @@ pub returns-in-Err-clause-decides : goal.returns-in-Err-clause-decides
 returns-in-Err-clause-decides c = λ e of setup xs h formed log.
     let m = c.args.heard.message in
     let t = c.args.heard.text in
-    refused-over (party_of setup) xs (Hears m t e) c.in-Err.refused (address-first (party_of setup) xs m t e c.in-Err.refused (c.in-Err.ensures.tests setup xs h))
+    refused-over (party_of setup) xs m t e c.in-Err.refused (address-first (party_of setup) xs m t e c.in-Err.refused (c.in-Err.ensures.tests setup xs h))

@@ -16,7 +16,7 @@ returns-in-Err-clause-answers g c = λ m e by.
     let own = subst (λ k. IsOwn k c.args.body.now m) (sym c.key.ensures) (own-of reg c.log.result.now c.args.body.now m e c.log.ensures.holds c.log.ensures.some heard) in
     subst (λ r. Answers (Hears m c.args.body.now e) c.args.self.now c.args.self.now site site (Err r)) (sym c.unheard_as.ensures)
     (subst (λ h. Answers (Hears m c.args.body.now e) h h site site (Err (unheard_as c.in-Err.fault))) c.self.view_is
-    (unheard-memory (Hears m c.args.body.now e) reg c.log.result.now site c.in-Err.fault c.log.ensures.holds c.log.ensures.some (sym c.is_broken.ensures ∙ c.if-is_broken.false) (c.in-Err.ensures.complete m own)))
+    (unheard-memory m c.args.body.now e reg c.log.result.now site c.in-Err.fault c.log.ensures.holds c.log.ensures.some (sym c.is_broken.ensures ∙ c.if-is_broken.false) (c.in-Err.ensures.complete m own)))
 
 pub message-requires-clause-own : goal.message-requires-clause-own
 message-requires-clause-own g c =

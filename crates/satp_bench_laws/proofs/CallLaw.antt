@@ -8,11 +8,12 @@ use Rattle.satp_base.specs.Ledgers.{Entries}
 use Rattle.satp_base.specs.Money.{Book}
 use Rattle.satp_base.specs.Trail.{Trail}
 use Rattle.satp_base.specs.declared.ledger.LedgerKind.{LedgerKind}
-use Rattle.satp_memory.specs.Following.{Follows, IsWithin}
+use Rattle.satp_memory.specs.Following.{Follows, IsWithin, KeepsSite}
 use Rattle.satp_memory.specs.Sites.{entries_or}
 use Rattle.satp_memory.specs.Steps.{entries_of, told_of, trail_of}
 use Rattle.satp_memory.specs.Stopping.{pick_of}
 use Rattle.satp_memory.specs.declared.disk.MemDisk.{MemDisk}
+use Rattle.satp_memory.proofs.Keeping.{calls_keep}
 use Rattle.satp_memory.specs.declared.stop.Stop.{Stop}
 use Rattle.satp_points.specs.Answers.{Goes, Stays, Unchanged, WritesLast}
 use Rattle.satp_points.specs.States.{GatewayState, IsAt, Tells, area_of, is_broken, kept_of, steps_of}
@@ -62,6 +63,10 @@ answered-or (Err r) found site = ⊎_elim (λ is. absurd (site (ap Err is))) (λ
 
 module _ (st : Setting) (a b : Founding) (g : Gateway) (setup : Setup) (w : World) (kind : LedgerKind) (call : Call) (old new : Seat) (result : Result (Option Text) Refused)
     (reached : Reached st a b w) (may : MayCall st w g call) (was : WasCalled kind call old new result) (site : result ≢ Err refused.Site) where
+  -- what the site's calls leave, whichever they were
+  kept : KeepsSite kind old.book new.book old.disk new.disk
+  kept = calls_keep kind old.book new.book old.disk new.disk was.beside
+
   abbrev moves : List Move
   moves = call_moves st w g call
 
@@ -112,7 +117,7 @@ module _ (st : Setting) (a b : Founding) (g : Gateway) (setup : Setup) (w : Worl
   sits-none sits = record {
     opened = now-open None sits;
     ledger = now-ledger None sits;
-    bound = (was.beside.disk.stop ∙ sits.bound.0, names-none-on old.disk new.disk was.beside.disk sits.bound.1);
+    bound = (kept.disk.stop ∙ sits.bound.0, names-none-on old.disk new.disk kept.disk sits.bound.1);
   }
 
   module _ (events pick : ℕ) (sits : SitsOpen st a b g setup w (Some (Stops events pick)) old) where
@@ -122,7 +127,7 @@ module _ (st : Setting) (a b : Founding) (g : Gateway) (setup : Setup) (w : Worl
     enough : costs side moves ≤ events
     enough =
         let within : IsWithin (Some (stop-at (length old.disk.events.items + events))) (length old.disk.events.items) (length new.disk.events.items) =
-        subst (λ (s : Option Stop). IsWithin s (length old.disk.events.items) (length new.disk.events.items)) sits.bound.0 was.beside.disk.within in
+        subst (λ (s : Option Stop). IsWithin s (length old.disk.events.items) (length new.disk.events.items)) sits.bound.0 kept.disk.within in
         omega (arith, within, now-longer (Some (Stops events pick)) sits)
 
     passes : (course side moves (Some (Stops events pick))).bench ≡ Works (Some (Stops (events - costs side moves) pick))
@@ -135,8 +140,8 @@ module _ (st : Setting) (a b : Founding) (g : Gateway) (setup : Setup) (w : Worl
       opened = now-open (Some (Stops events pick)) sits;
       ledger = now-ledger (Some (Stops events pick)) sits;
       bound = (
-        was.beside.disk.stop ∙ sits.bound.0 ∙ ap (λ (n : ℕ). Some (stop-at n)) (omega (arith, enough, now-longer (Some (Stops events pick)) sits)),
-        names-none-on old.disk new.disk was.beside.disk sits.bound.1,
+        kept.disk.stop ∙ sits.bound.0 ∙ ap (λ (n : ℕ). Some (stop-at n)) (omega (arith, enough, now-longer (Some (Stops events pick)) sits)),
+        names-none-on old.disk new.disk kept.disk sits.bound.1,
       );
     }
 
@@ -164,7 +169,7 @@ module _ (st : Setting) (a b : Founding) (g : Gateway) (setup : Setup) (w : Worl
   still-broken = was.answers.breaking.found sits.broken
 
   pub sits-still : SitsBroken st a b g setup w new
-  sits-still = sits-same st a b g setup w old new was.beside.disk (subst (Unchanged (WritesLast call) old.gateway new.gateway (tells_at old) (tells_at new)) still-broken was.answers.unchanged) sits
+  sits-still = sits-same st a b g setup w old new (calls_keep kind old.book new.book old.disk new.disk was.beside).disk (subst (Unchanged (WritesLast call) old.gateway new.gateway (tells_at old) (tells_at new)) still-broken was.answers.unchanged) sits
 
 -- ---- the law
 

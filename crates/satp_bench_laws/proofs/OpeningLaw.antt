@@ -16,8 +16,10 @@ use Rattle.satp_base.specs.declared.ledger.LedgerKind.{LedgerKind}
 use Rattle.satp_base.proofs.Closing.{rest_stands}
 use Rattle.satp_base.proofs.Readings.{one_list}
 use Rattle.satp_memory.specs.Calling.{Calling}
+use Rattle.satp_memory.specs.Following.{KeepsSite}
 use Rattle.satp_memory.specs.Steps.{Restarts, entries_before, entries_of, told_of, trail_of}
 use Rattle.satp_memory.specs.Stopping.{pick_of}
+use Rattle.satp_memory.proofs.Keeping.{calls_keep}
 use Rattle.satp_memory.specs.declared.disk.MemDisk.{MemDisk}
 use Rattle.satp_gateway.specs.Opening.{GatewayOpens, IsOf}
 use Rattle.satp_gateway.specs.SettingUp.{Opens}
@@ -111,6 +113,10 @@ module _ (st : Setting) (a b : Founding) (g : Gateway) (setup : Setup) (w : Worl
 -- ---- the law
 
 module _ (st : Setting) (a b : Founding) (g : Gateway) (setup : Setup) (x : Stage) (kind : LedgerKind) (old : Seat) (again : MemDisk) (new : Seat) (was : WasOpened kind old again new) where
+  -- what the site's calls leave, whichever they were
+  kept : KeepsSite kind old.book new.book again new.disk
+  kept = calls_keep kind old.book new.book again new.disk was.beside
+
   -- its ledger is told as before
   again-tells : TellsLedger (founding_at a b g) (tells_at old) (told_of old.disk) → TellsLedger (founding_at a b g) (tells_at (record old { disk = again })) (told_of again)
   again-tells is =
@@ -127,7 +133,7 @@ module _ (st : Setting) (a b : Founding) (g : Gateway) (setup : Setup) (x : Stag
       record {
         opened = subst (λ (t : Told). IsOpen st a b g setup x.world new.gateway (tells_at new) t) here is;
         ledger = ledger-told new (founding_at a b g) (side_at x.world g).book was.ledger is.stands.at.ledger (founded-at st a b x.world is.reached g);
-        bound = (was.beside.disk.stop ∙ was.restarts.stop, names-none-on again new.disk was.beside.disk (again-names names));
+        bound = (kept.disk.stop ∙ was.restarts.stop, names-none-on again new.disk kept.disk (again-names names));
       }
 
   by-bench : (bench : Bench) → IsDown bench → SitsBy st a b g setup x.world bench old → SitsOpen st a b g setup x.world None new

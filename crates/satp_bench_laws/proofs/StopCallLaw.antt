@@ -21,11 +21,12 @@ use Rattle.satp_base.specs.declared.area.Event.TheVariants.{Wrote, Cut, Synced, 
 use Rattle.satp_base.specs.declared.ledger.LedgerKind.{LedgerKind}
 use Rattle.satp_base.proofs.Trails.{extended_none, extended_twice, keeps_before}
 use Rattle.satp_memory.specs.Disk.{is_plain}
-use Rattle.satp_memory.specs.Following.{IsWithin, is_founding}
+use Rattle.satp_memory.specs.Following.{IsWithin, KeepsSite, is_founding}
 use Rattle.satp_memory.specs.Plain.{plain_keeps}
 use Rattle.satp_memory.specs.Steps.{entries_of, told_of, trail_of}
 use Rattle.satp_memory.specs.Stopping.{is_reached, pick_of}
 use Rattle.satp_memory.specs.declared.stop.Stop.{Stop}
+use Rattle.satp_memory.proofs.Keeping.{calls_keep}
 use Rattle.satp_log.specs.Journals.{party_of, payload_in, payloads_of}
 use Rattle.satp_log.proofs.JournalLemmas.{formed-record}
 use Rattle.satp_points.specs.Answers.{Breaks}
@@ -119,6 +120,10 @@ formed-by state setup xs holds = holds.formed
 
 module _ (st : Setting) (a b : Founding) (g : Gateway) (setup : Setup) (x : Stage) (kind : LedgerKind) (call : Call) (events pick : ℕ) (old new : Seat)
     (sits : SitsOpen st a b g setup x.world (Some (Stops events pick)) old) (may : MayCall st x.world g call) (stop : WasStopped st g setup x kind call events old new) where
+  -- what the site's calls leave, whichever they were
+  kept : KeepsSite kind old.book new.book old.disk new.disk
+  kept = calls_keep kind old.book new.book old.disk new.disk stop.was.beside
+
   abbrev w : World
   w = x.world
 
@@ -149,10 +154,10 @@ module _ (st : Setting) (a b : Founding) (g : Gateway) (setup : Setup) (x : Stag
   -- as many as were left
   many : length cut.0 ≡ events
   many =
-      let at : new.disk.stop ≡ Some (record { at = length old.disk.events.items + events; pick = pick }) = stop.was.beside.disk.stop ∙ sits.bound.0 in
+      let at : new.disk.stop ≡ Some (record { at = length old.disk.events.items + events; pick = pick }) = kept.disk.stop ∙ sits.bound.0 in
       let reached : nat_le (length old.disk.events.items + events) (length new.disk.events.items) ≡ true = subst (λ (s : Option Stop). is_reached s (length new.disk.events.items) ≡ true) at stop.stopped in
       let within : IsWithin (Some (record { at = length old.disk.events.items + events; pick = pick })) (length old.disk.events.items) (length new.disk.events.items) =
-      subst (λ (s : Option Stop). IsWithin s (length old.disk.events.items) (length new.disk.events.items)) sits.bound.0 stop.was.beside.disk.within in
+      subst (λ (s : Option Stop). IsWithin s (length old.disk.events.items) (length new.disk.events.items)) sits.bound.0 kept.disk.within in
       let all : length new.disk.events.items ≡ length (old.disk.events.items ++ cut.0) = ap (λ (t : Trail). length t.events) cut.2 in
       omega (arith, leb-true (length old.disk.events.items + events) (length new.disk.events.items) reached, within, all, length-append old.disk.events.items cut.0)
 
@@ -289,19 +294,19 @@ module _ (st : Setting) (a b : Founding) (g : Gateway) (setup : Setup) (x : Stag
 
   -- ---- its ledger
 
-  added-is : stop.was.beside.disk.added ≡ take events whole
+  added-is : kept.disk.added ≡ take events whole
   added-is =
       let old-events = old.disk.events.items in
-      let both : old-events ++ stop.was.beside.disk.added ≡ old-events ++ cut.0 = ap (λ (t : Trail). t.events) (sym stop.was.beside.disk.trail ∙ cut.2) in
-      sym (drop_at old-events stop.was.beside.disk.added (length old-events) refl) ∙ ap (drop (length old-events)) both ∙ drop_at old-events cut.0 (length old-events) refl ∙ first-events
+      let both : old-events ++ kept.disk.added ≡ old-events ++ cut.0 = ap (λ (t : Trail). t.events) (sym kept.disk.trail ∙ cut.2) in
+      sym (drop_at old-events kept.disk.added (length old-events) refl) ∙ ap (drop (length old-events)) both ∙ drop_at old-events cut.0 (length old-events) refl ∙ first-events
 
-  founded-none : list_any is_founding stop.was.beside.disk.added ≡ true → ⊥
+  founded-none : list_any is_founding kept.disk.added ≡ true → ⊥
   founded-none e = let no : list_any is_founding (take events whole) ≡ false = prefix-founds events whole (segments-found k (steps_of moves)) in cc (sym e ∙ ap (list_any is_founding) added-is ∙ no)
 
   now-ledger : new.book ≡ Some (record { genesis = founding_at a b g; entries = entries_of new.disk })
-  now-ledger = by-cause stop.was.beside.genesis
+  now-ledger = by-cause kept.genesis
     where
-      by-cause : (list_any is_founding stop.was.beside.disk.added ≡ true) ⊎ (option_map (λ (y : Book). y.genesis) new.book ≡ option_map (λ (y : Book). y.genesis) old.book) ⊎ ((new.book ≡ None) × Rose old.disk.calls.faults new.disk.calls.faults)
+      by-cause : (list_any is_founding kept.disk.added ≡ true) ⊎ (option_map (λ (y : Book). y.genesis) new.book ≡ option_map (λ (y : Book). y.genesis) old.book) ⊎ ((new.book ≡ None) × Rose old.disk.calls.faults new.disk.calls.faults)
           → new.book ≡ Some (record { genesis = founding_at a b g; entries = entries_of new.disk })
       by-cause (inl founded) = absurd (founded-none founded)
       by-cause (inr (inl same)) =
@@ -318,9 +323,9 @@ module _ (st : Setting) (a b : Founding) (g : Gateway) (setup : Setup) (x : Stag
   now-broken = record {
     broken = breaks.0;
     ledger = now-ledger;
-    names = names-none-on old.disk new.disk stop.was.beside.disk sits.bound.1;
+    names = names-none-on old.disk new.disk kept.disk sits.bound.1;
     left = λ again begins. is-left again (subst (λ (t : Trail). BeginsPicked t pick again) trail-is
-        (subst (λ (s : Option Stop). BeginsPicked (trail_of new.disk) (pick_of s) again) (stop.was.beside.disk.stop ∙ sits.bound.0) begins));
+        (subst (λ (s : Option Stop). BeginsPicked (trail_of new.disk) (pick_of s) again) (kept.disk.stop ∙ sits.bound.0) begins));
   }
 
   module _ (e : bench_at x g ≡ Works (Some (Stops events pick))) where

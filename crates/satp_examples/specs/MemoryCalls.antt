@@ -4,13 +4,13 @@ use Rattle.satp_base.specs.Calls.{Ask}
 use Rattle.satp_base.specs.Trail.{extended}
 use Rattle.satp_base.specs.declared.area.Area.TheVariants.{JournalA}
 use Rattle.satp_base.specs.declared.area.Event.{Event}
-use Rattle.satp_base.specs.declared.area.Event.TheVariants.{Founded, Left}
+use Rattle.satp_base.specs.declared.area.Event.TheVariants.{Founded, Left, Wrote}
 use Rattle.satp_base.specs.declared.ledger.LedgerCall.{LedgerCall}
 use Rattle.satp_base.specs.declared.ledger.LedgerCall.TheVariants.{Act, Found, Raise}
 use Rattle.satp_base.specs.declared.ledger.LedgerKind.TheVariants.{Accounts, Outputs}
 use Rattle.satp_base.specs.declared.ledger.LedgerOp.TheVariants.{Burn}
 use Rattle.satp_memory.specs.Calling.{failed, fresh, naming, succeeded, wanting}
-use Rattle.satp_memory.specs.Following.{Follows, FollowsDisk, FollowsSite, HasMisfit, HasSiteTrouble, HasTrouble, IsWithin}
+use Rattle.satp_memory.specs.Following.{AddsSo, Changes, DiskCalls, Done, EndsSo, Follows, FollowsDisk, FollowsSite, HasMisfit, HasSiteTrouble, HasTrouble, IsWithin, KeepsBook, Named, Stopped, Asks}
 use Rattle.satp_memory.specs.Steps.{trail_of}
 use Rattle.satp_memory.specs.Stopping.{stop_after}
 use Rattle.satp_memory.specs.declared.disk.MemDisk.{MemDisk}
@@ -49,6 +49,23 @@ pub record DisksGoOn : Type 0 where
   -- events up to the stop, and none after it
   pub up_to_the_stop : IsWithin (Some (stop_after 1 1 0)) 1 2
   pub not_after_the_stop : ¬ IsWithin (Some (stop_after 1 1 0)) 1 3
+
+-- one call, by when it ends so, and what it leaves
+pub record SingleCalls : Type 0 where
+  pub a_sync : (old new : MemDisk) → Runs old → HasSynced old new → DiskCalls (record { call = Changes synced; ending = Done } ∷ []) old new
+  pub not_done_after_a_stop : (old new : MemDisk) → HasStopped old → ¬ EndsSo Done ⊥ old new.calls
+  pub not_done_where_named : (old new : MemDisk) → IsNamed old → ¬ EndsSo Done ⊥ old new.calls
+  pub not_named_without_a_name : (old new : MemDisk) → Runs old → ¬ EndsSo Named ⊥ old new.calls
+  pub not_stopped_while_it_runs : (old new : MemDisk) → Runs old → ¬ EndsSo Stopped ⊥ old new.calls
+  -- a write that was named takes effect, a sync doesn't
+  pub a_named_write : AddsSo (Changes (Wrote JournalA 0 three)) Named (Wrote JournalA 0 three ∷ [])
+  pub not_a_named_write_without_effect : ¬ AddsSo (Changes (Wrote JournalA 0 three)) Named []
+  pub a_named_sync : AddsSo (Changes synced) Named []
+  pub not_a_named_sync_with_effect : ¬ AddsSo (Changes synced) Named (synced ∷ [])
+  pub not_an_event_after_a_stop : ¬ AddsSo (Changes synced) Stopped (synced ∷ [])
+  -- a founding that failed leaves no ledger, and any other call the one that was there
+  pub no_ledger_after_a_founding_that_failed : KeepsBook (Asks (Found Accounts with_gold)) Named (Some new_book) [] None
+  pub not_a_ledger_lost_by_a_raise : ¬ KeepsBook (Asks Raise) Named (Some new_book) [] None
 
 pub record CausesOfFaultsInMemory : Type 0 where
   pub a_named_call : (old new : MemDisk) → IsNamed old → Counts new (failed (naming 1 fresh)) → HasTrouble old new

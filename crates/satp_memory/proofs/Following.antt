@@ -11,7 +11,7 @@ use Rattle.satp_base.specs.Money.{Book}
 use Rattle.satp_base.specs.Streams.{Rose}
 use Rattle.satp_base.specs.Trail.{Trail}
 use Rattle.satp_base.specs.declared.area.Event.{Event}
-use Rattle.satp_base.specs.declared.area.Event.TheVariants.{Founded}
+use Rattle.satp_base.specs.declared.area.Event.TheVariants.{Acted, Founded}
 use Rattle.satp_base.specs.declared.ledger.Answer.{Answer}
 use Rattle.satp_base.specs.declared.ledger.LedgerCall.{LedgerCall}
 use Rattle.satp_base.specs.declared.ledger.LedgerCall.TheVariants.{Act, Found}
@@ -21,14 +21,15 @@ use Rattle.satp_base.specs.declared.message.Terms.{Terms}
 use Rattle.satp_base.specs.declared.session.SessionId.{SessionId}
 use Rattle.satp_memory.specs.declared.operate.Halt.{Halt}
 use Rattle.satp_memory.specs.declared.operate.Halt.TheVariants as halt
+use Rattle.satp_memory.specs.declared.operate.Operated.{Operated}
 use Rattle.satp_memory.specs.Halting.{fault_of, halted}
 use Rattle.satp_memory.specs.Calling.{Calling, begun, failed, faulting, is_due, is_refused, succeeded, wanting}
 use Rattle.satp_memory.specs.Areas.{bytes_in}
 use Rattle.satp_memory.specs.Disk.{is_plain}
-use Rattle.satp_memory.specs.Following.{Follows, FollowsDisk, FollowsSite, HasMisfit, HasSiteTrouble, HasTrouble, IsWithin, founds, has_founded, is_founding}
+use Rattle.satp_memory.specs.Following.{AddsSo, Asks, Changes, DiskCalls, Done, Ended, Ending, EndsSo, Follows, FollowsDisk, FollowsSite, HasDone, HasMoved, IsOfDisk, IsWithin, KeepsBook, Looks, Named, NotesSo, Refused, Refuses, SiteCall, SiteCalls, Stopped, Wanting, book_failed, founds, has_founded, is_founding, named_events, notes_of}
 use Rattle.satp_memory.specs.Sites.{ActEnds, LedgerFails, OperatesOn, same_kind}
-use Rattle.satp_memory.specs.FollowingLaws.{reached_more, within_none}
-use Rattle.satp_memory.specs.Steps.{asking, is_stopped}
+use Rattle.satp_memory.proofs.Keeping.{within_none}
+use Rattle.satp_memory.specs.Steps.{AskFails, adding, asking, is_stopped, noting, told_of}
 use Rattle.satp_memory.specs.Stopping.{is_reached}
 use Rattle.satp_memory.specs.declared.areas.Areas.{Areas}
 use Rattle.satp_memory.specs.declared.disk.MemDisk.{MemDisk}
@@ -112,63 +113,108 @@ follows_one old new event noted running plain founded start past events asks sto
     follows_by old new (event ∷ []) noted start past events asks stop counts plain founded
     (within_one old.stop (length old.events.items) (length new.events.items) running (ap length events ∙ length-append old.events.items (event ∷ [])))
 
--- ---- what makes a call fail
+-- what was added, and noted
+added_is : (old new : MemDisk) (f : Follows old new) (xs : List Event) → new.events.items ≡ old.events.items ++ xs → f.added ≡ xs
+added_is old new f xs is = append_cancel_left old.events.items f.added xs (sym (ap (λ (t : Trail). t.events) f.trail) ∙ is)
 
-first_of : (a b : Bool) → (a && b) ≡ true → a ≡ true
-first_of true b h = refl
-first_of false b h = h
+noted_is : (old new : MemDisk) (f : Follows old new) (xs : List Ask) → new.asks.items ≡ old.asks.items ++ xs → f.noted ≡ xs
+noted_is old new f xs is = append_cancel_left old.asks.items f.noted xs (sym f.asks ∙ is)
 
-second_of : (a b : Bool) → (a && b) ≡ true → b ≡ true
-second_of true b h = h
-second_of false b h = cc
+-- ---- how a call ends
 
--- a call that is to fail has a cause
-pub refused_trouble : (old new : MemDisk) → is_refused (is_stopped old) old.calls ≡ true → length old.events.items ≤ length new.events.items → new.stop ≡ old.stop → new.calls.count ≡ risen old.calls.count 1 → HasTrouble old new
-refused_trouble old new r grown stop count = by_stop (is_stopped old) refl r
+pub is_failed : (stopped : Bool) (c d : Calling) → is_refused stopped c ≡ true → d ≡ begun stopped c → d ≡ failed c
+is_failed stopped c d r is = is ∙ ap (λ (b : Bool). if b then failed c else succeeded c) r
+
+is_done : (stopped : Bool) (c d : Calling) → is_refused stopped c ≡ false → d ≡ begun stopped c → d ≡ succeeded c
+is_done stopped c d r is = is ∙ ap (λ (b : Bool). if b then failed c else succeeded c) r
+
+pub is_wanting : (stopped : Bool) (c d : Calling) → d ≡ wanting (begun stopped c) → (d ≡ wanting (succeeded c)) ⊎ (d ≡ wanting (failed c))
+is_wanting stopped c d is = by_case (is_refused stopped c) refl
   where
-    due : is_due old.calls ≡ true → HasTrouble old new
-    due e = inr (inl (
-      old.calls.count + 1,
-      omega arith,
-      omega (arith, count, ltb-true old.calls.count (2 ^ 64 - 1) (first_of (nat_lt old.calls.count (2 ^ 64 - 1)) (list_any (λ n. n == old.calls.count + 1) old.calls.named) e)),
-      second_of (nat_lt old.calls.count (2 ^ 64 - 1)) (list_any (λ n. n == old.calls.count + 1) old.calls.named) e,
-    ))
+    by_case : (r : Bool) → is_refused stopped c ≡ r → (d ≡ wanting (succeeded c)) ⊎ (d ≡ wanting (failed c))
+    by_case false r = inl (is ∙ ap (λ (b : Bool). wanting (if b then failed c else succeeded c)) r)
+    by_case true r = inr (is ∙ ap (λ (b : Bool). wanting (if b then failed c else succeeded c)) r)
 
-    by_stop : (s : Bool) → is_stopped old ≡ s → is_refused s old.calls ≡ true → HasTrouble old new
-    by_stop true here h = inr (inr (subst (λ (o : Option Stop). is_reached o (length new.events.items) ≡ true) (sym stop) (reached_more old.stop (length old.events.items) (length new.events.items) grown here)))
-    by_stop false here h = due h
-
-pub wanted_trouble : (old new : MemDisk) (c : Calling) → old.calls.wants ≤ c.wants → new.calls ≡ wanting c → HasTrouble old new
-wanted_trouble old new c le is = inl (subst (λ (d : Calling). Rose old.calls.wants d.wants) (sym is) (wanted le))
+-- a call that is to fail: the stop was reached, or it was named
+refused_ends : (old : MemDisk) (c : Calling) → is_refused (is_stopped old) old.calls ≡ true → c ≡ failed old.calls → EndsSo Stopped ⊥ old c ⊎ EndsSo Named ⊥ old c
+refused_ends old c r is = by_stop (is_stopped old) refl r
   where
-    wanted : old.calls.wants ≤ c.wants → Rose old.calls.wants (wanting c).wants
-    wanted h = omega (arith, h)
-
--- a call that was counted so has a cause where it failed
-cause_of : (stopped : Bool) (old new : MemDisk) → stopped ≡ is_stopped old → length old.events.items ≤ length new.events.items → new.stop ≡ old.stop → IsCounted stopped old.calls new.calls
-    → (new.calls.faults ≡ old.calls.faults) ⊎ HasTrouble old new
-cause_of stopped old new at grown stop (inr is) = inr (wanted_trouble old new (begun stopped old.calls) ((begun_counts stopped old.calls).wants) is)
-cause_of stopped old new at grown stop (inl is) = by_case (is_refused stopped old.calls) refl
-  where
-    by_case : (r : Bool) → is_refused stopped old.calls ≡ r → (new.calls.faults ≡ old.calls.faults) ⊎ HasTrouble old new
-    by_case false e = inl (ap (λ (c : Calling). c.faults) (is ∙ ap (λ (b : Bool). if b then failed old.calls else succeeded old.calls) e))
-    by_case true e = inr (refused_trouble old new (ap (λ (b : Bool). is_refused b old.calls) (sym at) ∙ e) grown stop (ap (λ (c : Calling). c.count) (is ∙ ap (λ (b : Bool). if b then failed old.calls else succeeded old.calls) e)))
+    by_stop : (s : Bool) → is_stopped old ≡ s → is_refused s old.calls ≡ true → EndsSo Stopped ⊥ old c ⊎ EndsSo Named ⊥ old c
+    by_stop true here h = inl (here, is)
+    by_stop false here h = inr (here, h, is)
 
 -- ---- one call on a disk
 
-pub disk_still : (stopped : Bool) (old new : MemDisk) → stopped ≡ is_stopped old → new.start ≡ old.start → new.past.items ≡ old.past.items → new.events.items ≡ old.events.items → new.asks.items ≡ old.asks.items → new.stop ≡ old.stop
-    → IsCounted stopped old.calls new.calls → FollowsDisk old new
-disk_still stopped old new at start past events asks stop calls = record {
-  disk = follows_still old new [] start past events (asks ∙ sym (append-nil old.asks.items)) stop (counted_counts stopped old.calls new.calls calls) refl;
-  cause = cause_of stopped old new at (omega (arith, ap length events)) stop calls;
-}
+none_noted : (call : SiteCall) (e : Ending) (old : MemDisk) (noted : List Ask) → IsOfDisk call → noted ≡ [] → NotesSo call e old noted
+none_noted call e old noted own none = by_ending e
+  where
+    is_none : (call : SiteCall) (b : Bool) → IsOfDisk call → notes_of call old b ≡ []
+    is_none Looks b own = refl
+    is_none (Changes event) b own = refl
+    is_none (Asks call) b own = absurd own
 
-pub disk_one : (stopped : Bool) (old new : MemDisk) (event : Event) → stopped ≡ is_stopped old → stopped ≡ false → is_plain (event ∷ []) ≡ true → list_any is_founding (event ∷ []) ≡ false
-    → new.start ≡ old.start → new.past.items ≡ old.past.items → new.events.items ≡ old.events.items ++ event ∷ [] → new.asks.items ≡ old.asks.items → new.stop ≡ old.stop → new.calls ≡ begun stopped old.calls → FollowsDisk old new
-disk_one stopped old new event at running plain none start past events asks stop calls = record {
-  disk = follows_one old new event [] (sym at ∙ running) plain none start past events (asks ∙ sym (append-nil old.asks.items)) stop (counted_counts stopped old.calls new.calls (inl calls));
-  cause = cause_of stopped old new at (omega (arith, ap length events, length-append old.events.items (event ∷ []))) stop (inl calls);
-}
+    by_ending : (e : Ending) → NotesSo call e old noted
+    by_ending Done = none ∙ sym (is_none call true own)
+    by_ending Named = none ∙ sym (is_none call false own)
+    by_ending Stopped = none ∙ sym (is_none call false own)
+    by_ending Wanting = inl none
+    by_ending Refused = none ∙ sym (is_none call false own)
+
+disk_made : (call : SiteCall) (e : Ending) (old new : MemDisk) (f : Follows old new) (added : List Event) → IsOfDisk call → new.asks.items ≡ old.asks.items → new.events.items ≡ old.events.items ++ added
+    → EndsSo e ⊥ old new.calls → AddsSo call e added → FollowsDisk old new
+disk_made call e old new f added own asks events ended adds = (
+  record { call = call; ending = e } ∷ [],
+  (new, own, record { disk = f; ended = ended; adds = subst (AddsSo call e) (sym (added_is old new f added events)) adds; notes = none_noted call e old f.noted own (noted_is old new f [] (asks ∙ sym (append-nil old.asks.items))) }, refl),
+)
+
+-- nothing was added
+module _ (stopped : Bool) (old new : MemDisk) (at : stopped ≡ is_stopped old) (start : new.start ≡ old.start) (past : new.past.items ≡ old.past.items) (events : new.events.items ≡ old.events.items) (asks : new.asks.items ≡ old.asks.items)
+    (stop : new.stop ≡ old.stop) where
+  disk_still : (call : SiteCall) (e : Ending) → IsOfDisk call → IsCounted stopped old.calls new.calls → EndsSo e ⊥ old new.calls → AddsSo call e [] → FollowsDisk old new
+  disk_still call e own calls ended adds =
+      disk_made call e old new (follows_still old new [] start past events (asks ∙ sym (append-nil old.asks.items)) stop (counted_counts stopped old.calls new.calls calls) refl) []
+      own asks (events ∙ sym (append-nil old.events.items)) ended adds
+
+  abbrev Stays : Ending → Type 0
+  Stays e = (call : SiteCall) → IsOfDisk call → AddsSo call e [] → FollowsDisk old new
+
+  refused_stays : is_refused stopped old.calls ≡ true → new.calls ≡ begun stopped old.calls → Stays Stopped ⊎ Stays Named
+  refused_stays r is =
+      ⊎_elim (λ (h : EndsSo Stopped ⊥ old new.calls). inl (λ call own adds. disk_still call Stopped own (inl is) h adds))
+      (λ (h : EndsSo Named ⊥ old new.calls). inr (λ call own adds. disk_still call Named own (inl is) h adds))
+      (refused_ends old new.calls (ap (λ (b : Bool). is_refused b old.calls) (sym at) ∙ r) (is_failed stopped old.calls new.calls r is))
+
+  -- where no memory was found
+  pub disk_wants : (call : SiteCall) → IsOfDisk call → new.calls ≡ wanting (begun stopped old.calls) → FollowsDisk old new
+  disk_wants call own is = disk_still call Wanting own (inr is) (is_wanting stopped old.calls new.calls is) refl
+
+  -- after a stop
+  pub disk_stopped : (call : SiteCall) → IsOfDisk call → stopped ≡ true → new.calls ≡ begun stopped old.calls → FollowsDisk old new
+  disk_stopped call own here is = disk_still call Stopped own (inl is) (sym at ∙ here, is_failed stopped old.calls new.calls (ap (λ (b : Bool). is_refused b old.calls) here) is) refl
+
+  -- where it was to fail, and has no effect
+  pub disk_refused : (call : SiteCall) → IsOfDisk call → [] ≡ named_events call → is_refused stopped old.calls ≡ true → new.calls ≡ begun stopped old.calls → FollowsDisk old new
+  disk_refused call own none r is = ⊎_elim (λ (h : Stays Stopped). h call own refl) (λ (h : Stays Named). h call own none) (refused_stays r is)
+
+  -- where it looks
+  pub disk_looked : is_refused stopped old.calls ≡ false → new.calls ≡ begun stopped old.calls → FollowsDisk old new
+  disk_looked r is = disk_still Looks Done tt (inl is) (ap (λ (b : Bool). is_refused b old.calls) (sym at) ∙ r, is_done stopped old.calls new.calls r is) refl
+
+-- one event was added
+module _ (stopped : Bool) (old new : MemDisk) (event : Event) (at : stopped ≡ is_stopped old) (running : stopped ≡ false) (plain : is_plain (event ∷ []) ≡ true) (none : list_any is_founding (event ∷ []) ≡ false)
+    (start : new.start ≡ old.start) (past : new.past.items ≡ old.past.items) (events : new.events.items ≡ old.events.items ++ event ∷ []) (asks : new.asks.items ≡ old.asks.items) (stop : new.stop ≡ old.stop)
+    (is : new.calls ≡ begun stopped old.calls) where
+  disk_one : (e : Ending) → EndsSo e ⊥ old new.calls → AddsSo (Changes event) e (event ∷ []) → FollowsDisk old new
+  disk_one e ended adds =
+      disk_made (Changes event) e old new (follows_one old new event [] (sym at ∙ running) plain none start past events (asks ∙ sym (append-nil old.asks.items)) stop (counted_counts stopped old.calls new.calls (inl is))) (event ∷ [])
+      tt asks events ended adds
+
+  pub disk_done : is_refused stopped old.calls ≡ false → FollowsDisk old new
+  disk_done r = disk_one Done (ap (λ (b : Bool). is_refused b old.calls) (sym at) ∙ r, is_done stopped old.calls new.calls r is) refl
+
+  -- it was named, and takes effect
+  pub disk_named : event ∷ [] ≡ named_events (Changes event) → is_refused stopped old.calls ≡ true → FollowsDisk old new
+  disk_named effect r = disk_one Named (sym at ∙ running, sym (ap (λ (b : Bool). is_refused b old.calls) running) ∙ r, is_failed stopped old.calls new.calls r is) effect
 
 pub err_of : {T E : Type 0} {P : Type 0} (r : Result T E) → is_err r ≡ true → OnErr r P → P
 err_of (Ok v) e p = cc
@@ -238,7 +284,7 @@ free_when false false e = cc
 free_when true f e = cc
 
 module _ (stopped fits barred : Bool) (c : Calling) (is : barred ≡ (stopped || not fits)) where
-  refused_is : is_refused barred c ≡ (is_refused stopped c || not fits)
+  pub refused_is : is_refused barred c ≡ (is_refused stopped c || not fits)
   refused_is = ap (λ (b : Bool). b || is_due c) is ∙ barred_else stopped fits (is_due c)
 
   begun_is : begun barred c ≡ (if is_refused stopped c || not fits then failed c else succeeded c)
@@ -265,84 +311,121 @@ reached_same stop events = rw (stop, events) refl
 
 -- ---- one call on a site
 
-pub noted_is : (old new : MemDisk) (f : Follows old new) (xs : List Ask) → new.asks.items ≡ old.asks.items ++ xs → f.noted ≡ xs
-noted_is old new f xs is = append_cancel_left old.asks.items f.noted xs (sym f.asks ∙ is)
+-- a call on its disk
+site_disk_calls : (own : LedgerKind) (book : Option Book) (cs : List Ended) (old new : MemDisk) → DiskCalls cs old new → SiteCalls own cs book book old new
+site_disk_calls own book [] old new is = (refl, is)
+site_disk_calls own book (c ∷ cs) old new (between, of_disk, m, more) = (
+  book,
+  between,
+  record { made = record { disk = m.disk; ended = widened c.ending m.ended; adds = m.adds; notes = m.notes }; book = kept c.call c.ending m.disk.added of_disk },
+  site_disk_calls own book cs between new more,
+)
+  where
+    widened : (e : Ending) → EndsSo e ⊥ old between.calls → EndsSo e (Refuses own book c.call) old between.calls
+    widened Done h = h
+    widened Named h = h
+    widened Stopped h = h
+    widened Wanting h = h
+    widened Refused h = absurd h.0
+
+    kept : (call : SiteCall) (e : Ending) (added : List Event) → IsOfDisk call → KeepsBook call e book added book
+    kept Looks Done added of = refl
+    kept Looks Named added of = refl
+    kept Looks Stopped added of = refl
+    kept Looks Wanting added of = refl
+    kept Looks Refused added of = refl
+    kept (Changes event) Done added of = refl
+    kept (Changes event) Named added of = refl
+    kept (Changes event) Stopped added of = refl
+    kept (Changes event) Wanting added of = refl
+    kept (Changes event) Refused added of = refl
+    kept (Asks call) e added of = absurd of
 
 pub site_disk : (own : LedgerKind) (book : Option Book) (old new : MemDisk) → FollowsDisk old new → FollowsSite own book book old new
-site_disk own book old new f = record { disk = f.disk; genesis = inr (inl refl); cause = ⊎_elim (λ (e : new.calls.faults ≡ old.calls.faults). inl (e, λ some. some)) (λ (t : HasTrouble old new). inr (inl t)) f.cause }
+site_disk own book old new (calls, made) = (calls, site_disk_calls own book calls old new made)
 
--- the call didn't fail, and the ledger is there still
-pub site_quiet : (own : LedgerKind) (before after : Option Book) (old new : MemDisk) → Follows old new → new.calls.faults ≡ old.calls.faults → option_map (λ (b : Book). b.genesis) after ≡ option_map (λ (b : Book). b.genesis) before → FollowsSite own before after old new
-site_quiet own before after old new f faults genesis = record { disk = f; genesis = inr (inl genesis); cause = inl (faults, stays before after genesis) }
-  where
-    stays : (b a : Option Book) → option_map (λ (x : Book). x.genesis) a ≡ option_map (λ (x : Book). x.genesis) b → is_some b ≡ true → is_some a ≡ true
-    stays (Some x) (Some y) e s = refl
-    stays (Some x) None e s = cc
-    stays None a e s = cc
+-- a call on its ledger
+module _ (own : LedgerKind) (call : LedgerCall) (before after : Option Book) (old new : MemDisk) (f : Follows old new) where
+  site_made : (e : Ending) (added : List Event) → new.events.items ≡ old.events.items ++ added → EndsSo e (Refuses own before (Asks call)) old new.calls → AddsSo (Asks call) e added
+      → NotesSo (Asks call) e old f.noted → KeepsBook (Asks call) e before added after → FollowsSite own before after old new
+  site_made e added events ended adds notes book =
+      let is = added_is old new f added events in (
+        record { call = Asks call; ending = e } ∷ [],
+        (
+          after,
+          new,
+          record {
+            made = record { disk = f; ended = ended; adds = subst (AddsSo (Asks call) e) (sym is) adds; notes = notes };
+            book = subst (λ (l : List Event). KeepsBook (Asks call) e before l after) (sym is) book;
+          },
+          (refl, refl),
+        ),
+      )
 
--- a call that its ledger could answer failed, or one that it couldn't
-pub ledger_trouble : (old new : MemDisk) (fits : Bool) → new.events.items ≡ old.events.items → new.stop ≡ old.stop → LedgerFails (is_refused (is_stopped old) old.calls) fits old.calls new.calls → HasTrouble old new ⊎ (fits ≡ false)
-ledger_trouble old new fits events stop (inl (refused, is)) = inl (refused_trouble old new refused (omega (arith, ap length events)) stop (ap (λ (c : Calling). c.count) is))
-ledger_trouble old new fits events stop (inr (inl (free, lacks, is))) = inr lacks
-ledger_trouble old new fits events stop (inr (inr is)) = inl (wanted_trouble old new (if is_refused (is_stopped old) old.calls || not fits then failed old.calls else succeeded old.calls) (wants_by (is_refused (is_stopped old) old.calls || not fits)) is)
-  where
-    wants_by : (b : Bool) → old.calls.wants ≤ (if b then failed old.calls else succeeded old.calls).wants
-    wants_by true = omega arith
-    wants_by false = omega arith
+  noted_as : (b : Bool) → new.asks.items ≡ old.asks.items ++ asking call old b ∷ [] → f.noted ≡ asking call old b ∷ []
+  noted_as b is = noted_is old new f (asking call old b ∷ []) is
 
--- the ledger is as it was, and the call failed: it wasn't there, or there was trouble
-pub site_failed : (own : LedgerKind) (book : Option Book) (old new : MemDisk) → Follows old new → new.events.items ≡ old.events.items → LedgerFails (is_refused (is_stopped old) old.calls) (is_some book) old.calls new.calls → FollowsSite own book book old new
-site_failed own book old new f events fails = record {
-  disk = f;
-  genesis = inr (inl refl);
-  cause = inr (⊎_elim (λ (t : HasTrouble old new). inl t) (λ (lacks : is_some book ≡ false). inr (inl (none book lacks))) (ledger_trouble old new (is_some book) events f.stop fails));
-}
-  where
-    none : (b : Option Book) → is_some b ≡ false → b ≡ None
-    none None e = refl
-    none (Some x) e = cc
+  pub site_done : (added : List Event) → new.events.items ≡ old.events.items ++ added → is_refused (is_stopped old) old.calls ≡ false → new.calls ≡ succeeded old.calls → HasDone (Asks call) added
+      → new.asks.items ≡ old.asks.items ++ asking call old true ∷ [] → HasMoved (Asks call) before added after → FollowsSite own before after old new
+  site_done added events free is adds asks book = site_made Done added events (free, is) adds (noted_as true asks) book
 
--- a founding that failed, and left no ledger
-pub site_unfounded : (own kind : LedgerKind) (genesis : Founding) (before : Option Book) (old new : MemDisk) → Follows old new → new.events.items ≡ old.events.items → Rose old.calls.faults new.calls.faults
-    → LedgerFails (is_refused (is_stopped old) old.calls) (same_kind kind own) old.calls new.calls
-    → (new.asks.items ≡ old.asks.items ++ asking (Found kind genesis) old false ∷ []) ⊎ (Rose old.calls.wants new.calls.wants × (new.asks.items ≡ old.asks.items)) → FollowsSite own before None old new
-site_unfounded own kind genesis before old new f events rose fails notes = record {
-  disk = f;
-  genesis = inr (inr (refl, rose));
-  cause = inr (⊎_elim (λ (t : HasTrouble old new). inl t) (λ (lacks : same_kind kind own ≡ false). misfit lacks notes) (ledger_trouble old new (same_kind kind own) events f.stop fails));
-}
-  where
-    misfit : same_kind kind own ≡ false → (new.asks.items ≡ old.asks.items ++ asking (Found kind genesis) old false ∷ []) ⊎ (Rose old.calls.wants new.calls.wants × (new.asks.items ≡ old.asks.items)) → HasSiteTrouble own before old new f.noted
-    misfit lacks (inr (wants, same)) = inl (inl wants)
-    misfit lacks (inl is) = inr (inr (subst (HasMisfit own) (sym (noted_is old new f _ is)) (inl (refl, lacks))))
+  module _ (events : new.events.items ≡ old.events.items) (book : after ≡ book_failed (Asks call) before) where
+    no_more : new.events.items ≡ old.events.items ++ []
+    no_more = events ∙ sym (append-nil old.events.items)
 
--- an operation that wasn't answered after it was asked
-pub site_halted : (own : LedgerKind) (op : LedgerOp) (s : SessionId) (t : Terms) (before after : Option Book) (h : Halt) (old new : MemDisk) (mid : Calling) → Follows old new → OperatesOn op s t before (Err h) after
-    → old.calls.wants ≤ mid.wants → new.calls ≡ halted h mid → new.asks.items ≡ old.asks.items ++ asking (Act op s t) old false ∷ [] → FollowsSite own before after old new
-site_halted own op s t before after h old new mid f on le calls asks = record { disk = f; genesis = inr (inl (ap (option_map (λ (b : Book). b.genesis)) (same h on))); cause = inr (trouble h on calls) }
-  where
-    same : (h : Halt) → OperatesOn op s t before (Err h) after → after ≡ before
-    same halt.Unfounded o = o.1 ∙ sym o.0
-    same (halt.OutOfOrder entry) (b, is, out, e) = e
-    same halt.Memory o = o
+    -- the ledger was asked, and found no memory or refuses the call
+    pub site_wants : (new.calls ≡ wanting (succeeded old.calls)) ⊎ (new.calls ≡ wanting (failed old.calls)) → new.asks.items ≡ old.asks.items ++ asking call old false ∷ [] → FollowsSite own before after old new
+    site_wants is asks = site_made Wanting [] no_more is refl (inr (noted_as false asks)) book
 
-    trouble : (h : Halt) → OperatesOn op s t before (Err h) after → new.calls ≡ halted h mid → HasSiteTrouble own before old new f.noted
-    trouble halt.Unfounded o c = inr (inl o.0)
-    trouble (halt.OutOfOrder entry) (b, is, out, e) c = inr (inr (subst (HasMisfit own) (sym (noted_is old new f _ asks)) (inl (refl, (b, entry, out)))))
-    trouble halt.Memory o c = inl (wanted_trouble old new mid le c)
+    pub site_refuses : Refuses own before (Asks call) → is_refused (is_stopped old) old.calls ≡ false → new.calls ≡ failed old.calls → new.asks.items ≡ old.asks.items ++ asking call old false ∷ [] → FollowsSite own before after old new
+    site_refuses out free is asks = site_made Refused [] no_more (out, free, is) refl (noted_as false asks) book
+
+    -- it failed before the ledger was asked
+    pub site_failed : (fits : Bool) → (fits ≡ false → Refuses own before (Asks call)) → AskFails call fits old new → FollowsSite own before after old new
+    site_failed fits lacks (inr (is, asks)) = site_made Wanting [] no_more is refl (inl (noted_is old new f [] (asks ∙ sym (append-nil old.asks.items)))) book
+    site_failed fits lacks (inl (barred, is, asks)) =
+        ⊎_elim
+        (λ (r : is_refused (is_stopped old) old.calls ≡ true). ⊎_elim (λ (h : EndsSo Stopped ⊥ old new.calls). site_made Stopped [] no_more h refl (noted_as false asks) book)
+        (λ (h : EndsSo Named ⊥ old new.calls). site_made Named [] no_more h refl (noted_as false asks) book) (refused_ends old new.calls r is))
+        (λ (free : (is_refused (is_stopped old) old.calls ≡ false) × (fits ≡ false)). site_refuses (lacks free.1) free.0 is asks)
+        (barred_when (is_refused (is_stopped old) old.calls) fits barred)
+
+-- no ledger is there
+pub no_ledger : {A : Type 0} (f : A → Book) (o : Option A) (b : Bool) → b ≡ is_some o → b ≡ false → option_map f o ≡ None
+no_ledger f None b is e = refl
+no_ledger f (Some x) b is e = cc
+
+-- an operation that was asked and not answered
+pub site_halted : (own : LedgerKind) (op : LedgerOp) (s : SessionId) (t : Terms) (before after : Option Book) (h : Halt) (old new : MemDisk) (mid : Calling) → Follows old new → new.events.items ≡ old.events.items → OperatesOn op s t before (Err h) after
+    → is_refused (is_stopped old) old.calls ≡ false → mid ≡ succeeded old.calls → new.calls ≡ halted h mid → new.asks.items ≡ old.asks.items ++ asking (Act op s t) old false ∷ [] → FollowsSite own before after old new
+site_halted own op s t before after halt.Unfounded old new mid f events on free is calls asks =
+    site_refuses own (Act op s t) before after old new f events (on.1 ∙ sym on.0) (inl on.0) free (calls ∙ ap faulting is) asks
+site_halted own op s t before after (halt.OutOfOrder entry) old new mid f events (b, had, out, same) free is calls asks =
+    site_refuses own (Act op s t) before after old new f events same (inr (b, entry, had, out)) free (calls ∙ ap faulting is) asks
+site_halted own op s t before after halt.Memory old new mid f events on free is calls asks = site_wants own (Act op s t) before after old new f events on (inl (calls ∙ ap wanting is)) asks
 
 pub is_some_map : {A B : Type 0} (f : A → B) (o : Option A) → is_some (option_map f o) ≡ is_some o
 is_some_map f None = refl
 is_some_map f (Some x) = refl
 
--- a founding that succeeded
-pub site_founded : (own : LedgerKind) (before : Option Book) (book : Book) (old new : MemDisk) → Follows old new → new.events.items ≡ old.events.items ++ Founded ∷ [] → new.calls.faults ≡ old.calls.faults → FollowsSite own before (Some book) old new
-site_founded own before book old new f events faults =
-    let added : f.added ≡ Founded ∷ [] = append_cancel_left old.events.items f.added (Founded ∷ []) (sym (ap (λ (t : Trail). t.events) f.trail) ∙ events) in
-    record { disk = f; genesis = inl (ap (list_any is_founding) added); cause = inl (faults, λ some. refl) }
-
 pub ledger_wanted : (refused fits : Bool) (c d e : Calling) → refused ≡ false → fits ≡ true → d ≡ succeeded c → e ≡ wanting d → LedgerFails refused fits c e
 ledger_wanted refused fits c d e r f is want = rw (r, f) (inr (inr (want ∙ ap wanting is)))
+
+-- a note of a call that was asked, after what was noted before
+pub ask_then : (a b : Ask) (xs ys zs : List Ask) → zs ≡ ys ++ a ∷ [] → ys ≡ xs → a ≡ b → zs ≡ xs ++ b ∷ []
+ask_then a b xs ys zs is same e = is ∙ (ap (λ (l : List Ask). l ++ a ∷ []) same ∙ ap (λ (x : Ask). xs ++ x ∷ []) e)
+
+-- the events of an operation that was answered
+pub acted_events : (old mid new : MemDisk) (ask : Ask) (added : List Event) → told_of new ≡ noting ask (adding added (told_of mid)) → mid.events.items ≡ old.events.items → new.events.items ≡ old.events.items ++ added
+acted_events old mid new ask added told same = ap (λ (t : Told). t.trail.events) told ∙ ap (λ (l : List Event). l ++ added) same
+
+pub acted_or : (op : LedgerOp) (s : SessionId) (t : Terms) (changed : Bool) → HasDone (Asks (Act op s t)) (if changed then Acted op s t ∷ [] else [])
+acted_or op s t true = inl refl
+acted_or op s t false = inr refl
+
+pub operated_moves : (op : LedgerOp) (s : SessionId) (t : Terms) (before after : Option Book) (done : Operated) → OperatesOn op s t before (Ok done) after
+    → HasMoved (Asks (Act op s t)) before (if done.changed then Acted op s t ∷ [] else []) after
+operated_moves op s t before after done (b, had, says, has, changes, may, now) = (b, had, has, ap (λ (c : Bool). if c then Acted op s t ∷ [] else []) changes)
 
 pub halted_noted : (a b : Ask) (xs ys zs : List Ask) → zs ≡ ys ++ record a { succeeded = false } ∷ [] → ys ≡ xs → a ≡ b → zs ≡ xs ++ record b { succeeded = false } ∷ []
 halted_noted a b xs ys zs is same e = is ∙ (ap (λ (l : List Ask). l ++ record a { succeeded = false } ∷ []) same ∙ ap (λ (x : Ask). xs ++ record x { succeeded = false } ∷ []) e)

@@ -1,5 +1,5 @@
 -- What a call on a disk in memory does to it, when it fails, and what a restart leaves.
-use Rattle.std.specs.Prelude.{◌≡◌, ◌≤◌, ◌<◌, ◌⊎◌, ℕ, ◌%◌, Bool, true, false, List, [], ◌∷◌, ◌++◌, length, slice_index, None, Result, Ok, Err}
+use Rattle.std.specs.Prelude.{◌≡◌, ◌≤◌, ◌<◌, ◌⊎◌, ℕ, ◌%◌, Bool, true, false, ◌||◌, not, List, [], ◌∷◌, ◌++◌, length, slice_index, None, Result, Ok, Err}
 use Rattle.std.specs.FinMap as map
 use Rattle.satp_base.specs.declared.area.Area.{Area}
 use Rattle.satp_base.specs.declared.area.Event.{Event}
@@ -116,6 +116,12 @@ Notes call old new (Ok done) = new.asks.items ≡ old.asks.items ++ asking call 
 Notes call old new (Err fault) =
     (new.asks.items ≡ old.asks.items ++ asking call old false ∷ [])
     ⊎ (Rose old.calls.wants new.calls.wants × (new.asks.items ≡ old.asks.items))
+
+-- A call on the ledger that fails before the ledger is asked: it was to fail or doesn't fit the ledger, and is noted; or no memory was found, and it isn't.
+abbrev pub AskFails : LedgerCall → (fits : Bool) → MemDisk → MemDisk → Type 0
+AskFails call fits old new =
+    (((is_refused (is_stopped old) old.calls || not fits) ≡ true) × (new.calls ≡ failed old.calls) × (new.asks.items ≡ old.asks.items ++ asking call old false ∷ []))
+    ⊎ (((new.calls ≡ wanting (succeeded old.calls)) ⊎ (new.calls ≡ wanting (failed old.calls))) × (new.asks.items ≡ old.asks.items))
 
 -- the events that a call adds: one where it succeeds, none after a stop or where no memory was found, and else those of a named one
 abbrev pub Adds : {T E : Type 0} → Event → List Event → MemDisk → MemDisk → Result T E → Type 0

@@ -48,7 +48,7 @@ impl MemDisk {
     ghost use Rattle.satp_memory.specs.Sites.{LedgerEnds};
     ghost use Rattle.satp_base.specs.declared.ledger.LedgerCall.TheVariants.{Found};
     ghost use Rattle.satp_memory.specs.Stopping.{stop_after};
-    ghost use Rattle.satp_memory.specs.Steps.{Does, IsFresh, IsOfLedger, Restarts, SameDisk, adding, asking, counted, entries_of, is_stopped, noting, told_of};
+    ghost use Rattle.satp_memory.specs.Steps.{AskFails, Does, IsFresh, IsOfLedger, Restarts, SameDisk, adding, asking, counted, entries_of, is_stopped, noting, told_of};
     ghost use Rattle.satp_base.specs.LedgerAt.{entries_after};
     ghost use Rattle.satp_base.specs.LedgerRule.{moved_entries};
     ghost use Rattle.satp_base.specs.Calls.{MayMiss, ask_failed};
@@ -158,6 +158,7 @@ impl MemDisk {
         ensures room { OnOk result ((vec_len self.new.events < vec_capacity self.new.events) × (vec_len self.new.asks < vec_capacity self.new.asks)) }
         ensures err { OnErr result (MayMiss (ask_failed call []) [] (Some (told_of self.old)) (Some (told_of self.new))) }
         ensures noted { OnErr result ((self.new.asks.items ≡ self.old.asks.items ++ asking call self.old false ∷ []) ⊎ (Rose self.old.calls.wants self.new.calls.wants × (self.new.asks.items ≡ self.old.asks.items))) }
+        ensures failed { OnErr result (AskFails call fits self.old self.new) }
         ensures asks { OnOk result (self.new.asks.items ≡ self.old.asks.items) }
         ensures cause { HasCause self.old.calls.faults self.new.calls.faults result }
         ensures ended { LedgerEnds (is_refused (is_stopped self.old) self.old.calls) fits self.old.calls self.new.calls result }
@@ -199,6 +200,7 @@ impl MemDisk {
         ensures room { OnOk result ((vec_len self.new.events < vec_capacity self.new.events) × (vec_len self.new.asks < vec_capacity self.new.asks)) }
         ensures err { OnErr result (MayMiss (ask_failed (Found kind genesis.now) []) [] (Some (told_of self.old)) (Some (told_of self.new))) }
         ensures noted { OnErr result ((self.new.asks.items ≡ self.old.asks.items ++ asking (Found kind genesis.now) self.old false ∷ []) ⊎ (Rose self.old.calls.wants self.new.calls.wants × (self.new.asks.items ≡ self.old.asks.items))) }
+        ensures failed { OnErr result (AskFails (Found kind genesis.now) fits self.old self.new) }
         ensures asks { OnOk result (self.new.asks.items ≡ self.old.asks.items) }
         ensures cause { HasCause self.old.calls.faults self.new.calls.faults result }
         ensures ended { LedgerEnds (is_refused (is_stopped self.old) self.old.calls) fits self.old.calls self.new.calls result }

@@ -5,6 +5,7 @@ mod areas;
 mod calls;
 mod copy;
 mod disk;
+mod laws;
 mod note;
 mod operate;
 mod pick;
@@ -15,6 +16,7 @@ mod stop;
 mod wire;
 
 pub use disk::MemDisk;
+pub use laws::law_calls_keep;
 pub use sink::MemSink;
 pub use site::MemSite;
 pub use source::MemSource;

@@ -1,4 +1,4 @@
-use Rattle.std.proofs.Common.{◌≡◌, ◌≤◌, ◌==◌, ℕ, true, false, List, [], ◌∷◌, ◌++◌, length, Option, Some, None, refl, sym, ap, ◌∙◌, subst, inl, inr, arith, lit≤}
+use Rattle.std.proofs.Common.{◌≡◌, ◌≤◌, ◌==◌, ℕ, true, false, Bool, List, [], ◌∷◌, ◌++◌, length, Option, Some, None, refl, sym, ap, ◌∙◌, subst, inl, inr, arith, lit≤}
 use Rattle.std.specs.List.{list_any}
 use Rattle.std.proofs.lemmas.List.{append-nil}
 use Rattle.satp_base.specs.Calls.{Ask}
@@ -10,11 +10,13 @@ use Rattle.satp_base.specs.declared.area.Event.{Event}
 use Rattle.satp_base.specs.declared.area.Event.TheVariants.{Founded, Left}
 use Rattle.satp_base.specs.declared.ledger.Entry.TheVariants.{Absent}
 use Rattle.satp_base.specs.declared.ledger.LedgerKind.TheVariants.{Accounts}
-use Rattle.satp_memory.specs.Calling.{Calling, failed, fresh, naming, succeeded}
+use Rattle.satp_memory.specs.Calling.{Calling, failed, fresh, is_due, is_refused, naming, succeeded}
 use Rattle.satp_memory.specs.Disk.{is_plain}
-use Rattle.satp_memory.specs.Following.{Follows, FollowsDisk, FollowsSite, HasMisfit, HasTrouble, IsWithin, has_founded, is_founding}
+use Rattle.satp_memory.specs.Following.{Changes, DiskCalls, Done, Follows, FollowsDisk, FollowsSite, HasMisfit, HasTrouble, IsWithin, has_founded, is_founding}
 use Rattle.satp_memory.specs.FollowingLaws.{follows_disk_same, follows_site_same}
+use Rattle.satp_memory.specs.Steps.{is_stopped}
 use Rattle.satp_memory.specs.Stopping.{is_reached, stop_after}
+use Rattle.satp_memory.proofs.Keeping.{calls_keep, disk_calls_keep}
 use Rattle.satp_memory.specs.declared.disk.MemDisk.{MemDisk}
 use Rattle.satp_memory.specs.declared.stop.Stop.{Stop}
 use Rattle.satp_examples.specs.Disks.{one_write, three}
@@ -26,27 +28,34 @@ use Rattle.satp_examples.proofs.memory_calls.law_memory_calls.Goals as goal
 
 -- ---- disks
 
-over_a_sync : (old new : MemDisk) → Runs old → HasSynced old new → FollowsDisk old new
-over_a_sync old new s h =
+a_sync : (old new : MemDisk) → Runs old → HasSynced old new → DiskCalls (record { call = Changes synced; ending = Done } ∷ []) old new
+a_sync old new s h =
     let count : old.calls.count ≡ 0 = ap (λ (c : Calling). c.count) s.counted in
     let faults : new.calls.faults ≡ old.calls.faults = ap (λ (c : Calling). c.faults) h.counted in
-    let wants : new.calls.wants ≡ old.calls.wants = ap (λ (c : Calling). c.wants) h.counted in record {
-      disk = record {
-        stop = h.stops;
-        named = ap (λ (c : Calling). c.named) h.counted;
-        added = synced ∷ [];
-        trail = h.trail;
-        plain = refl;
-        within = subst (λ (x : Option Stop). IsWithin x (length old.events.items) (length new.events.items)) (sym s.stops) tt;
-        noted = [];
-        asks = h.asked ∙ sym (append-nil old.asks.items);
-        founded = refl;
-        count = omega (arith, count);
-        faults = omega (arith, faults);
-        wants = omega (arith, wants);
-      };
-      cause = inl faults;
-    }
+    let wants : new.calls.wants ≡ old.calls.wants = ap (λ (c : Calling). c.wants) h.counted in (
+      new,
+      tt,
+      record {
+        disk = record {
+          stop = h.stops;
+          named = ap (λ (c : Calling). c.named) h.counted;
+          added = synced ∷ [];
+          trail = h.trail;
+          plain = refl;
+          within = subst (λ (x : Option Stop). IsWithin x (length old.events.items) (length new.events.items)) (sym s.stops) tt;
+          noted = [];
+          asks = h.asked ∙ sym (append-nil old.asks.items);
+          founded = refl;
+          count = omega (arith, count, ap (λ (c : Calling). c.count) h.counted);
+          faults = omega (arith, faults);
+          wants = omega (arith, wants);
+        };
+        ended = (rw (s.stops, s.counted) refl, h.counted);
+        adds = refl;
+        notes = refl;
+      },
+      refl,
+    )
 
 past_its_stop : (old new : MemDisk) → HasStopped old → Adds (synced ∷ []) old new → ¬ Follows old new
 past_its_stop old new s a f =
@@ -94,7 +103,7 @@ count_falls old new before now f =
 pub returns-clause-disks : goal.returns-clause-disks
 returns-clause-disks c = record {
   over_no_call = follows_disk_same;
-  over_a_sync = over_a_sync;
+  over_a_sync = λ old new s h. (record { call = Changes synced; ending = Done } ∷ [], a_sync old new s h);
   not_without_its_stop = λ old new s none f. let bad : None ≡ Some (stop_after 1 0 0) = sym none ∙ (f.stop ∙ s.stops) in absurd cc;
   not_with_another_stop = λ old new s n f. let bad : Some (stop_after 1 0 0) ≡ None = sym n.stops ∙ (f.stop ∙ s.stops) in absurd cc;
   not_past_its_stop = past_its_stop;
@@ -105,6 +114,39 @@ returns-clause-disks c = record {
   not_with_a_count_that_falls = count_falls;
   up_to_the_stop = lit≤ tt;
   not_after_the_stop = λ h. let bad : 3 ≤ 2 = h in absurd (omega (arith, bad));
+}
+
+-- ---- one call
+
+refused_stopped : (old : MemDisk) → HasStopped old → is_refused (is_stopped old) old.calls ≡ true
+refused_stopped old s = rw (s.stops, s.happened) refl
+
+refused_named : (old : MemDisk) → IsNamed old → is_refused (is_stopped old) old.calls ≡ true
+refused_named old s = rw (s.stops, s.counted) refl
+
+not_due : (old : MemDisk) → Runs old → is_due old.calls ≡ false
+not_due old s = rw s.counted refl
+
+still_runs : (old : MemDisk) → Runs old → is_stopped old ≡ false
+still_runs old s = rw s.stops refl
+
+both : (b : Bool) → b ≡ true → b ≡ false → ⊥
+both b t f = let bad : true ≡ false = sym t ∙ f in absurd cc
+
+pub returns-clause-calls : goal.returns-clause-calls
+returns-clause-calls c = record {
+  a_sync = a_sync;
+  not_done_after_a_stop = λ old new s h. both _ (refused_stopped old s) h.0;
+  not_done_where_named = λ old new s h. both _ (refused_named old s) h.0;
+  not_named_without_a_name = λ old new s h. both _ h.1 (not_due old s);
+  not_stopped_while_it_runs = λ old new s h. both _ h.0 (still_runs old s);
+  a_named_write = refl;
+  not_a_named_write_without_effect = λ h. let bad = h in absurd cc;
+  a_named_sync = refl;
+  not_a_named_sync_with_effect = λ h. let bad = h in absurd cc;
+  not_an_event_after_a_stop = λ h. let bad = h in absurd cc;
+  no_ledger_after_a_founding_that_failed = refl;
+  not_a_ledger_lost_by_a_raise = λ h. let bad = h in absurd cc;
 }
 
 -- ---- causes
@@ -142,7 +184,7 @@ no_fault_uncounted old new s n same =
     let is : new.calls.faults ≡ 1 = ap (λ (c : Calling). c.faults) n in absurd (omega (arith, was, is, same))
 
 no_cause : (old new : MemDisk) → Runs old → Counts new (failed fresh) → ¬ FollowsDisk old new
-no_cause old new s n f = elim f.cause [ inl same ↦ no_fault_uncounted old new s n same | inr trouble ↦ calm old new s n f.disk.stop trouble ]
+no_cause old new s n f = let kept = disk_calls_keep old new f in elim kept.cause [ inl same ↦ no_fault_uncounted old new s n same | inr trouble ↦ calm old new s n kept.disk.stop trouble ]
 
 named_call : (old new : MemDisk) → IsNamed old → Counts new (failed (naming 1 fresh)) → HasTrouble old new
 named_call old new s n =
@@ -173,27 +215,27 @@ there : (b : Book) → Some b ≡ None → ⊥
 there b e = cc
 
 ledger_gone : (old new : MemDisk) → Runs old → HasSynced old new → ¬ FollowsSite Accounts (Some new_book) None old new
-ledger_gone old new s h f = elim f.cause [
+ledger_gone old new s h f = let all = calls_keep Accounts (Some new_book) None old new f in elim all.cause [
   | inl kept ↦ let bad = kept.1 refl in absurd cc
   | inr (inl trouble) ↦ still old new s h trouble
   | inr (inr (inl none)) ↦ there new_book none
-  | inr (inr (inr m)) ↦ no_misfit old new h.asked f.disk m
+  | inr (inr (inr m)) ↦ no_misfit old new h.asked all.disk m
 ]
 
 pub returns-clause-sites : goal.returns-clause-sites
 returns-clause-sites c = record {
   over_no_call = λ disk. follows_site_same Accounts (Some new_book) disk;
   not_without_its_ledger = ledger_gone;
-  not_with_a_ledger_that_nobody_founded = λ old new s h f. elim f.genesis [
-    | inl founded ↦ let none = not_founded old new h.asked f.disk in absurd cc
+  not_with_a_ledger_that_nobody_founded = λ old new s h f. let all = calls_keep Accounts None (Some new_book) old new f in elim all.genesis [
+    | inl founded ↦ let none = not_founded old new h.asked all.disk in absurd cc
     | inr (inl same) ↦ let bad = same in absurd cc
     | inr (inr lost) ↦ there new_book lost.0
   ];
-  no_fault_without_a_cause = λ old new s n before now f. elim f.cause [
+  no_fault_without_a_cause = λ old new s n before now f. let all = calls_keep Accounts (Some new_book) (Some new_book) old new f in elim all.cause [
     | inl kept ↦ no_fault_uncounted old new s n kept.0
-    | inr (inl trouble) ↦ calm old new s n f.disk.stop trouble
+    | inr (inl trouble) ↦ calm old new s n all.disk.stop trouble
     | inr (inr (inl none)) ↦ there new_book none
-    | inr (inr (inr m)) ↦ no_misfit old new (now ∙ sym before) f.disk m
+    | inr (inr (inr m)) ↦ no_misfit old new (now ∙ sym before) all.disk m
   ];
   a_fault_without_a_ledger = λ old new. inr (inl refl);
   a_founding_of_another_kind = inl (refl, refl);

@@ -1,7 +1,7 @@
 use Rattle.std.proofs.Common.{◌∙◌, ℕ, true, [], ◌∷◌, Some, false, ap, refl, sym, inl, inr}
 use Rattle.std.proofs.lemmas.List.{append-nil}
 use Rattle.satp_memory.specs.Calling.{Calling, wanting}
-use Rattle.satp_memory.proofs.Following.{ask_by, kept_last, reached_same, ask_noted, counted_counts, follows_still, ledger_fails, ledger_goes, ledger_wants, not_stopped, told_is, trail_is, trail_same}
+use Rattle.satp_memory.proofs.Following.{ask_by, is_failed, is_wanting, kept_last, reached_same, ask_noted, counted_counts, follows_still, ledger_fails, ledger_goes, ledger_wants, not_stopped, refused_is, told_is, trail_is, trail_same}
 use Rattle.satp_memory.proofs.disk.MemDisk.ask.Goals as goal
 
 pub returns-then-is_err-clause-err : goal.returns-then-is_err-clause-err
@@ -9,6 +9,11 @@ returns-then-is_err-clause-err c =
     let room = c.find_room.ensures in
     let count = ap (λ (k : Calling). k.count) room.calls ∙ c.begin-fails.ensures.told in
     inr (ap Some (told_is (trail_same room.start room.past room.events) room.dirs (ap (λ (k : Calling). k.count) c.want.ensures.counted ∙ count) (ap (λ (k : Calling). k.last_failed) c.want.ensures.counted ∙ ap Some count) room.asks))
+
+pub returns-then-is_err-clause-failed : goal.returns-then-is_err-clause-failed
+returns-then-is_err-clause-failed c =
+    let room = c.find_room.ensures in
+    inr (is_wanting c.is_barred-barred.result _ _ (c.want.ensures.counted ∙ ap wanting (room.calls ∙ c.begin-fails.ensures.counted)), room.asks)
 
 pub returns-then-is_err-clause-ended : goal.returns-then-is_err-clause-ended
 returns-then-is_err-clause-ended c = ledger_wants _ _ _ _ c.is_barred-barred.ensures _ (c.want.ensures.counted ∙ ap wanting (c.find_room.ensures.calls ∙ c.begin-fails.ensures.counted))
@@ -28,6 +33,12 @@ returns-then-fails-clause-err c =
 
 pub returns-then-fails-clause-noted : goal.returns-then-fails-clause-noted
 returns-then-fails-clause-noted c = inl (ask_noted c.args.call false c.note.ensures.asks c.find_room.ensures.asks c.count-before.ensures)
+
+pub returns-then-fails-clause-failed : goal.returns-then-fails-clause-failed
+returns-then-fails-clause-failed c =
+    let fails = sym c.begin-fails.ensures.refused ∙ c.if-fails.true in
+    let calls = c.note.ensures.calls ∙ (c.find_room.ensures.calls ∙ c.begin-fails.ensures.counted) in
+    inl (sym (refused_is _ _ _ c.args.self.now.calls c.is_barred-barred.ensures) ∙ fails, is_failed c.is_barred-barred.result c.args.self.now.calls _ fails calls, ask_noted c.args.call false c.note.ensures.asks c.find_room.ensures.asks c.count-before.ensures)
 
 pub returns-then-fails-clause-ended : goal.returns-then-fails-clause-ended
 returns-then-fails-clause-ended c = ledger_fails _ _ _ _ c.is_barred-barred.ensures _ (sym c.begin-fails.ensures.refused ∙ c.if-fails.true) (c.note.ensures.calls ∙ (c.find_room.ensures.calls ∙ c.begin-fails.ensures.counted))

@@ -5,7 +5,7 @@ use Rattle.satp_base.specs.Founding.{Founding}
 use Rattle.satp_base.specs.declared.ledger.LedgerCall.TheVariants.{Found}
 use Rattle.satp_memory.specs.Calling.{wanting}
 use Rattle.satp_memory.specs.Steps.{asking, counted, is_stopped, told_of}
-use Rattle.satp_memory.proofs.Following.{counted_counts, follows_still}
+use Rattle.satp_memory.proofs.Following.{counted_counts, follows_still, is_wanting}
 use Rattle.satp_memory.proofs.disk.MemDisk.ask_founding.Goals as goal
 
 pub returns-in-Ok-clause-ok : goal.returns-in-Ok-clause-ok
@@ -19,3 +19,6 @@ returns-in-Err-clause-err c =
 pub returns-in-Err-clause-beside : goal.returns-in-Err-clause-beside
 returns-in-Err-clause-beside c =
     follows_still _ _ [] refl refl refl (sym (append-nil _)) refl (counted_counts c.is_barred-barred.result _ _ (inr (c.want.ensures.counted ∙ ap wanting c.begin.ensures.counted))) refl
+
+pub returns-in-Err-clause-failed : goal.returns-in-Err-clause-failed
+returns-in-Err-clause-failed c = inr (is_wanting c.is_barred-barred.result _ _ (c.want.ensures.counted ∙ ap wanting c.begin.ensures.counted), refl)

@@ -1,6 +1,7 @@
-use Rattle.std.proofs.Common.{◌∙◌, not, Some, ap, inl, inr}
+use Rattle.std.proofs.Common.{◌∙◌, not, Some, ap, inl, inr, refl, sym}
 use Rattle.satp_memory.specs.Calling.{Calling, wanting}
-use Rattle.satp_memory.proofs.Following.{dir_noted, disk_still, told_is, trail_same}
+use Rattle.satp_memory.specs.Following.{Looks}
+use Rattle.satp_memory.proofs.Following.{dir_noted, disk_looked, disk_refused, disk_wants, told_is, trail_same}
 use Rattle.satp_memory.proofs.disk.MemDiskDisk.enter.Goals as goal
 
 pub returns-then-refused-clause-err : goal.returns-then-refused-clause-err
@@ -19,12 +20,15 @@ returns-in-Err-clause-err c =
 
 pub returns-then-refused-clause-beside : goal.returns-then-refused-clause-beside
 returns-then-refused-clause-beside c =
-    disk_still _ _ _ c.is_stopped-stopped.ensures c.stage_enter.ensures.start c.stage_enter.ensures.past c.stage_enter.ensures.events c.stage_enter.ensures.asks c.stage_enter.ensures.stop (inl (c.stage_enter.ensures.calls ∙ c.begin-refused.ensures.counted))
+    let past = c.stage_enter.ensures in
+    disk_refused _ _ _ c.is_stopped-stopped.ensures past.start past.past past.events past.asks past.stop Looks tt refl (sym c.begin-refused.ensures.refused ∙ c.if-refused.true) (past.calls ∙ c.begin-refused.ensures.counted)
 
 pub returns-else-refused-clause-beside : goal.returns-else-refused-clause-beside
 returns-else-refused-clause-beside c =
-    disk_still _ _ _ c.is_stopped-stopped.ensures c.stage_enter.ensures.start c.stage_enter.ensures.past c.stage_enter.ensures.events c.stage_enter.ensures.asks c.stage_enter.ensures.stop (inl (c.stage_enter.ensures.calls ∙ c.begin-refused.ensures.counted))
+    let past = c.stage_enter.ensures in
+    disk_looked _ _ _ c.is_stopped-stopped.ensures past.start past.past past.events past.asks past.stop (sym c.begin-refused.ensures.refused ∙ c.if-refused.false) (past.calls ∙ c.begin-refused.ensures.counted)
 
 pub returns-in-Err-clause-beside : goal.returns-in-Err-clause-beside
 returns-in-Err-clause-beside c =
-    disk_still _ _ _ c.is_stopped-stopped.ensures c.stage_enter.ensures.start c.stage_enter.ensures.past c.stage_enter.ensures.events c.stage_enter.ensures.asks c.stage_enter.ensures.stop (inr (c.want.ensures.counted ∙ ap wanting (c.stage_enter.ensures.calls ∙ c.begin-refused.ensures.counted)))
+    let past = c.stage_enter.ensures in
+    disk_wants _ _ _ c.is_stopped-stopped.ensures past.start past.past past.events past.asks past.stop Looks tt (c.want.ensures.counted ∙ ap wanting (past.calls ∙ c.begin-refused.ensures.counted))

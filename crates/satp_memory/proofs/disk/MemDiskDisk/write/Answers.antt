@@ -1,23 +1,30 @@
-use Rattle.std.proofs.Common.{◌∙◌, ap, refl, sym, inr, length, arith}
+use Rattle.std.proofs.Common.{◌∙◌, ap, refl, sym, length, arith}
 use Rattle.satp_base.specs.declared.area.Event.TheVariants.{Wrote}
 use Rattle.satp_memory.specs.Calling.{wanting}
-use Rattle.satp_memory.proofs.Following.{disk_one, disk_still, err_of, ok_of}
+use Rattle.satp_memory.specs.Following.{Changes}
+use Rattle.satp_memory.proofs.Following.{disk_done, disk_named, disk_stopped, disk_wants, err_of, ok_of}
 use Rattle.satp_memory.proofs.disk.MemDiskDisk.write.Goals as goal
 
 pub stage_write-requires : goal.stage_write-requires
 stage_write-requires c = omega (arith, c.requires _ refl, ap length ((c.args.self.now.tracks c.args.area).now_is))
 
+pub returns-then-stopped-clause-beside : goal.returns-then-stopped-clause-beside
+returns-then-stopped-clause-beside c =
+    disk_stopped _ _ _ c.is_stopped-stopped.ensures refl refl refl refl refl (Changes (Wrote c.args.area c.args.at c.args.bytes.now)) tt c.if-stopped.true c.begin-refused.ensures.counted
+
 pub returns-then-is_err-clause-beside : goal.returns-then-is_err-clause-beside
 returns-then-is_err-clause-beside c =
     let same = err_of c.stage_write.result (sym c.is_err.ensures.value ∙ c.if-is_err.true) c.stage_write.ensures.err in
-    disk_still _ _ _ c.is_stopped-stopped.ensures same.start same.past same.events same.asks same.stop (inr (c.want.ensures.counted ∙ ap wanting (c.stage_write.ensures.calls ∙ c.begin-refused.ensures.counted)))
+    disk_wants _ _ _ c.is_stopped-stopped.ensures same.start same.past same.events same.asks same.stop (Changes (Wrote c.args.area c.args.at c.args.bytes.now)) tt (c.want.ensures.counted ∙ ap wanting (c.stage_write.ensures.calls ∙ c.begin-refused.ensures.counted))
 
 pub returns-then-refused-clause-beside : goal.returns-then-refused-clause-beside
 returns-then-refused-clause-beside c =
     let does = ok_of c.stage_write.result (sym c.is_err.ensures.value ∙ c.if-is_err.false) c.stage_write.ensures.ok in
-    disk_one _ _ _ (Wrote c.args.area c.args.at c.args.bytes.now) c.is_stopped-stopped.ensures c.if-stopped.false refl refl does.start does.past does.events does.asks does.stop (does.calls ∙ c.begin-refused.ensures.counted)
+    disk_named _ _ _ (Wrote c.args.area c.args.at c.args.bytes.now) c.is_stopped-stopped.ensures c.if-stopped.false refl refl does.start does.past does.events does.asks does.stop (does.calls ∙ c.begin-refused.ensures.counted)
+    refl (sym c.begin-refused.ensures.refused ∙ c.if-refused.true)
 
 pub returns-clause-beside : goal.returns-clause-beside
 returns-clause-beside c =
     let does = ok_of c.stage_write.result (sym c.is_err.ensures.value ∙ c.if-is_err.false) c.stage_write.ensures.ok in
-    disk_one _ _ _ (Wrote c.args.area c.args.at c.args.bytes.now) c.is_stopped-stopped.ensures c.if-stopped.false refl refl does.start does.past does.events does.asks does.stop (does.calls ∙ c.begin-refused.ensures.counted)
+    disk_done _ _ _ (Wrote c.args.area c.args.at c.args.bytes.now) c.is_stopped-stopped.ensures c.if-stopped.false refl refl does.start does.past does.events does.asks does.stop (does.calls ∙ c.begin-refused.ensures.counted)
+    (sym c.begin-refused.ensures.refused ∙ c.if-refused.false)

@@ -1,25 +1,18 @@
--- A piece that is handed over, and a connection that is opened, are one step of the wire.
-use Rattle.std.proofs.Common.{◌≡◌, ◌≢◌, ◌≤◌, ◌⊎◌, ℕ, true, false, List, [], ◌∷◌, ◌++◌, length, Option, Some, None, inl, inr, refl, sym, ap, subst, arith, length-append}
+-- Each call on the wire is one step of it.
+use Rattle.std.proofs.Common.{◌≡◌, ◌≢◌, ◌≤◌, ◌⊎◌, ℕ, Bool, true, false, List, [], ◌∷◌, length, ◌++◌, Option, Some, None, inl, inr, refl, sym, ap, subst, arith, length-append}
 use Rattle.std.specs.Prelude.{Result, Ok, Err, OnOk, OnErr}
-use Rattle.satp_base.specs.Calls.{risen}
-use Rattle.satp_base.specs.Streams.{Rose}
+use Rattle.satp_base.specs.declared.address.Address.{Address}
 use Rattle.satp_base.specs.declared.wire.Dial.{Dial}
+use Rattle.satp_base.specs.declared.wire.Dial.TheVariants as dial
 use Rattle.satp_serve.specs.declared.responder.Halt.{Halt}
 use Rattle.satp_serve.specs.declared.responder.Replied.{Replied}
 use Rattle.satp_serve.specs.declared.turn.ServeFault.{ServeFault}
 use Rattle.satp_serve.specs.declared.turn.ServeFault.TheVariants as serve
 use Rattle.satp_serve.specs.declared.turn.Turn.{Turn}
-use Rattle.satp_loop.specs.Following.{Follows, HandsOver, Hears, Leads, Opened, Point, Served, Step, Takes, Unheard, answers_of, fresh, point, said_after}
-use Rattle.satp_loop.specs.Lines.{Lining, Opens, refused, wanting}
+use Rattle.satp_loop.specs.Following.{Follows, HandsOver, Heard, Hears, IsDeaf, IsOpening, Listened, NotDialled, NotSaid, Opened, Point, Refused, Served, Shut, Step, Takes, Unheard, after_piece, answers_of, fresh, point}
+use Rattle.satp_loop.specs.Lines.{Lining, Misses, audible, hearing, listening, opening, saying, shutting, wanting}
 use Rattle.satp_loop.specs.declared.answering.Answering.{Answering}
 use Rattle.satp_loop.specs.declared.peer.Peer.{Peer}
-
--- a count that rises
-rises : (n : ℕ) → Rose n (risen n 1)
-rises n = omega arith
-
-stays : (n : ℕ) → n ≤ risen n 1
-stays n = omega arith
 
 -- the answers that were heard are still there
 pub place_grows : (place : ℕ) (old : Option Answering) (a b : Answering) (more : List ℕ) → place ≤ length (answers_of old) → old ≡ Some a → b.answers ≡ a.answers ++ more → place ≤ length b.answers
@@ -28,119 +21,92 @@ place_grows place old a b more within is grows =
     omega (arith, there, ap (λ (l : List ℕ). length l) grows, length-append a.answers more)
 
 -- what is said after a piece for which memory was found
-said_whole : (said piece : List ℕ) (result : Result Turn ServeFault) → result ≢ Err serve.Memory → said ++ piece ≡ said_after said result piece
-said_whole said piece (Ok turn) other = refl
-said_whole said piece (Err serve.Site) other = refl
-said_whole said piece (Err serve.Memory) other = absurd (other refl)
+said_whole : (result : Result Turn ServeFault) (piece : List ℕ) (line : Lining) → result ≢ Err serve.Memory → saying piece line ≡ after_piece result piece line
+said_whole (Ok turn) piece line other = refl
+said_whole (Err serve.Site) piece line other = refl
+said_whole (Err serve.Memory) piece line other = absurd (other refl)
 
 module _ {S : Type 0} (replies : Peer → S → List ℕ → Result Replied Halt → Peer → S → Type 0) where
-  -- one step
-  one_step : (s : Step) (p q : Point S) → Takes replies s p q → Leads replies (s ∷ []) p q
-  one_step s p q is = (q, is, refl)
+  abbrev TakesOne : Point S → Point S → Type 0
+  TakesOne p q = (step : Step) × Takes replies step p q
 
-  abbrev LeadsSome : Point S → Point S → Type 0
-  LeadsSome p q = (steps : List Step) × Leads replies steps p q
+  -- ---- a piece that is handed over
 
-  abbrev said_more : Lining → List ℕ → Lining
-  said_more line piece = record line { said = line.said ++ piece }
-
-  served_leads : (piece : List ℕ) (line : Lining) (old : Answering) (p : Peer) (s : S) (heard : Answering) (q : Peer) (t : S)
+  deaf_or_served : (piece : List ℕ) (line : Lining) (old : Answering) (p : Peer) (s : S) (heard : Answering) (q : Peer) (t : S) → line.is_open ≡ true → line.ended ≡ false
       → ((old.served.closed ≡ true) × (heard ≡ old) × (q ≡ p) × (t ≡ s)) ⊎ ((result : Result Turn ServeFault) × (result ≢ Err serve.Memory) × Hears replies piece result old p s heard q t)
-      → LeadsSome (point line (Some old) p s) (point (said_more line piece) (Some heard) q t)
-  served_leads piece line old p s heard q t (inl deaf) = (Unheard piece ∷ [], one_step (Unheard piece) _ _ (deaf.0, rw (deaf.1, deaf.2, deaf.3) refl))
-  served_leads piece line old p s heard q t (inr served) =
-      (Served piece served.0 ∷ [], one_step (Served piece served.0) _ _ (old, heard, refl, served.2, rw (said_whole line.said piece served.0 served.1) refl))
+      → TakesOne (point line (Some old) p s) (point (saying piece line) (Some heard) q t)
+  deaf_or_served piece line old p s heard q t opened going (inl deaf) =
+      (Unheard piece, (opened, subst (λ (b : Bool). IsDeaf b (Some old)) (sym going) deaf.0, rw (deaf.1, deaf.2, deaf.3) refl))
+  deaf_or_served piece line old p s heard q t opened going (inr served) =
+      (Served piece served.0, (opened, going, old, heard, refl, served.2, rw (said_whole served.0 piece line served.1) refl))
 
-  ok_leads : (T E : Type 0) (done : T) (piece : List ℕ) (line : Lining) (old : Option Answering) (p : Peer) (s : S) (new : Option Answering) (q : Peer) (t : S)
-      → HandsOver {T = T} {E = E} replies piece (Ok done) old p s new q t → LeadsSome (point line old p s) (point (said_more line piece) new q t)
-  ok_leads T E done piece line None p s new q t is = (Unheard piece ∷ [], one_step (Unheard piece) _ _ (tt, rw (is.1, is.2, is.3) refl))
-  ok_leads T E done piece line (Some old) p s new q t is =
-      subst (λ (o : Option Answering). LeadsSome (point line (Some old) p s) (point (said_more line piece) o q t)) (sym is.1) (served_leads piece line old p s is.0 q t is.2)
+  said : (T E : Type 0) (done : T) (piece : List ℕ) (ended : Bool) (line : Lining) (old : Option Answering) (p : Peer) (s : S) (new : Option Answering) (q : Peer) (t : S)
+      → line.is_open ≡ true → line.ended ≡ ended → HandsOver {T = T} {E = E} replies piece (Ok done) ended old p s new q t → TakesOne (point line old p s) (point (saying piece line) new q t)
+  said T E done piece true line old p s new q t opened over is =
+      (Unheard piece, (opened, subst (λ (b : Bool). IsDeaf b old) (sym over) tt, rw (is.1, is.2, is.3) refl))
+  said T E done piece false line None p s new q t opened going is =
+      (Unheard piece, (opened, subst (λ (b : Bool). IsDeaf b None) (sym going) tt, rw (is.1, is.2, is.3) refl))
+  said T E done piece false line (Some old) p s new q t opened going is =
+      subst (λ (o : Option Answering). TakesOne (point line (Some old) p s) (point (saying piece line) o q t)) (sym is.1) (deaf_or_served piece line old p s is.0 q t opened going is.2)
 
-  err_leads : (T E : Type 0) (fault : E) (piece : List ℕ) (line : Lining) (old : Option Answering) (p : Peer) (s : S) (new : Option Answering) (q : Peer) (t : S)
-      → HandsOver {T = T} {E = E} replies piece (Err fault) old p s new q t → LeadsSome (point line old p s) (point line new q t)
-  err_leads T E fault piece line None p s new q t is = absurd is.0
-  err_leads T E fault piece line (Some old) p s new q t is =
-      subst (λ (o : Option Answering). LeadsSome (point line (Some old) p s) (point line o q t)) (sym is.1)
-      (Served piece (Err serve.Memory) ∷ [], one_step (Served piece (Err serve.Memory)) _ _ (old, is.0, refl, is.2, refl))
+  not_said : (T E : Type 0) (fault : E) (piece : List ℕ) (ended : Bool) (line : Lining) (old : Option Answering) (p : Peer) (s : S) (new : Option Answering) (q : Peer) (t : S)
+      → line.is_open ≡ true → line.ended ≡ ended → HandsOver {T = T} {E = E} replies piece (Err fault) ended old p s new q t → TakesOne (point line old p s) (point (wanting line) new q t)
+  not_said T E fault piece true line old p s new q t opened over is = absurd is.0
+  not_said T E fault piece false line None p s new q t opened going is = absurd is.0
+  not_said T E fault piece false line (Some old) p s new q t opened going is =
+      subst (λ (o : Option Answering). TakesOne (point line (Some old) p s) (point (wanting line) o q t)) (sym is.1)
+      (Served piece (Err serve.Memory), (opened, going, old, is.0, refl, is.2, refl))
 
   module _ (beside : S → S → Type 0) where
-    pub ok_follows : (T E : Type 0) (done : T) (piece : List ℕ) (line after : Lining) (old : Option Answering) (p : Peer) (s : S) (new : Option Answering) (q : Peer) (t : S)
-        → after ≡ record line { said = line.said ++ piece } → HandsOver {T = T} {E = E} replies piece (Ok done) old p s new q t → beside s t
-        → Follows replies beside line after (point line old p s) (point after new q t)
-    ok_follows T E done piece line after old p s new q t is hands goes =
-        let leads = ok_leads T E done piece line old p s new q t hands in
-        subst (λ (l : Lining). Follows replies beside line l (point line old p s) (point l new q t)) (sym is) (record {
-          steps = leads.0;
-          leads = leads.1;
-          site = goes;
-          dials = omega arith;
-          faults = omega arith;
-          wants = omega arith;
-          cause = inl refl;
-        })
+    one_follows : (step : Step) (p q : Point S) → beside p.site q.site → Takes replies step p q → Follows replies beside p q
+    one_follows step p q goes is = record { steps = step ∷ []; leads = (q, is, refl); site = goes }
 
-    pub err_follows : (T E : Type 0) (fault : E) (piece : List ℕ) (line after : Lining) (old : Option Answering) (p : Peer) (s : S) (new : Option Answering) (q : Peer) (t : S)
-        → after ≡ wanting line → HandsOver {T = T} {E = E} replies piece (Err fault) old p s new q t → beside s t
-        → Follows replies beside line after (point line old p s) (point after new q t)
-    err_follows T E fault piece line after old p s new q t is hands goes =
-        let leads = err_leads T E fault piece line old p s new q t hands in
-        subst (λ (l : Lining). Follows replies beside line l (point line old p s) (point l new q t)) (sym is) (record {
-          steps = leads.0;
-          leads = leads.1;
-          site = goes;
-          dials = omega arith;
-          faults = stays line.faults;
-          wants = stays line.wants;
-          cause = inr (inl (rises line.wants));
-        })
+    -- a call that leaves all but the line
+    abbrev Turns : Lining → Lining → Type 0
+    Turns line after = (a : Option Answering) (p : Peer) (s : S) → beside s s → Follows replies beside (point line a p s) (point after a p s)
 
-    -- ---- a connection that is opened, or isn't
+    -- ---- each call
 
-    opened : (dial : Dial) (line : Lining) (old : Option Answering) (p : Peer) (s : S) → beside s s → line.used ≡ false
-        → Follows replies beside line (record line { dials = line.dials ++ dial ∷ []; place = 0; said = []; ended = false; used = true; is_open = true }) (point line old p s)
-        (point (record line { dials = line.dials ++ dial ∷ []; place = 0; said = []; ended = false; used = true; is_open = true }) (Some fresh) p s)
-    opened dial line old p s goes unused = record {
-      steps = Opened ∷ [];
-      leads = one_step Opened (point line old p s) (point (record line { dials = line.dials ++ dial ∷ []; place = 0; said = []; ended = false; used = true; is_open = true }) (Some fresh) p s) (unused, refl);
-      site = goes;
-      dials = omega (arith, length-append line.dials (dial ∷ []));
-      faults = omega arith;
-      wants = omega arith;
-      cause = inl refl;
-    }
+    pub listens_follows : (T E : Type 0) (at : Address) (result : Result T E) (line after : Lining) → OnOk result (after ≡ listening at line) → OnErr result (after ≡ wanting line) → Turns line after
+    listens_follows T E at (Ok done) line after ok err a p s goes = one_follows (Listened at) _ _ goes (ap (λ (l : Lining). point l a p s) ok)
+    listens_follows T E at (Err fault) line after ok err a p s goes = one_follows (NotDialled (dial.Listen at)) _ _ goes (ap (λ (l : Lining). point l a p s) err)
 
-    refused_follows : (dial : Dial) (line : Lining) (old : Option Answering) (p : Peer) (s : S) → beside s s → 2 ≤ length (line.dials ++ dial ∷ [])
-        → Follows replies beside line (refused dial line) (point line old p s) (point (refused dial line) old p s)
-    refused_follows dial line old p s goes twice = record {
-      steps = [];
-      leads = refl;
-      site = goes;
-      dials = omega (arith, length-append line.dials (dial ∷ []));
-      faults = stays line.faults;
-      wants = omega arith;
-      cause = inr (inr twice);
-    }
+    misses_follows : (d : Dial) (line after : Lining) → IsOpening d → Misses d line after → Turns line after
+    misses_follows d line after opens (inl is) a p s goes = one_follows (Refused d) _ _ goes (opens, is.0, is.1, ap (λ (l : Lining). point l a p s) is.2)
+    misses_follows d line after opens (inr is) a p s goes = one_follows (NotDialled d) _ _ goes (ap (λ (l : Lining). point l a p s) is)
 
-    wanting_follows : (line : Lining) (old : Option Answering) (p : Peer) (s : S) → beside s s → Follows replies beside line (wanting line) (point line old p s) (point (wanting line) old p s)
-    wanting_follows line old p s goes = record {
-      steps = [];
-      leads = refl;
-      site = goes;
-      dials = omega arith;
-      faults = stays line.faults;
-      wants = stays line.wants;
-      cause = inr (inl (rises line.wants));
-    }
+    pub opens_follows : (T E : Type 0) (d : Dial) (result : Result T E) (line after : Lining) (old new : Option Answering) (p q : Peer) (s t : S) → IsOpening d → beside s s
+        → OnOk result ((line.used ≡ false) × (after ≡ opening d line) × (new ≡ Some fresh)) → OnErr result (Misses d line after × (new ≡ old)) → (q ≡ p) × (t ≡ s)
+        → Follows replies beside (point line old p s) (point after new q t)
+    opens_follows T E d (Ok done) line after old new p q s t opens goes ok err same =
+        one_follows (Opened d) _ _ (subst (λ (v : S). beside s v) (sym same.1) goes) (opens, ok.0, rw (ok.1, ok.2, same.0, same.1) refl)
+    opens_follows T E d (Err fault) line after old new p q s t opens goes ok err same =
+        rw (err.1, same.0, same.1) (misses_follows d line after opens err.0 old p s goes)
 
-    refused_or_wanting : (dial : Dial) (line after : Lining) (old : Option Answering) (p : Peer) (s : S) → beside s s
-        → ((line.used ≡ true) × (2 ≤ length after.dials) × (after ≡ refused dial line)) ⊎ (after ≡ wanting line) → Follows replies beside line after (point line old p s) (point after old p s)
-    refused_or_wanting dial line after old p s goes (inl is) =
-        rw is.2 (refused_follows dial line old p s goes (subst (λ (l : Lining). 2 ≤ length l.dials) is.2 is.1))
-    refused_or_wanting dial line after old p s goes (inr is) = rw is (wanting_follows line old p s goes)
+    pub reads_follows : (n room : ℕ) (line after : Lining) (a : Option Answering) (p : Peer) (s : S) → beside s s → line.is_open ≡ true → n ≡ audible line (answers_of a) room → after ≡ hearing n room line
+        → Follows replies beside (point line a p s) (point after a p s)
+    reads_follows n room line after a p s goes opened count is = one_follows (Heard n room) _ _ goes (opened, count, ap (λ (l : Lining). point l a p s) is)
 
-    pub opens_follows : (T E : Type 0) (dial : Dial) (result : Result T E) (line after : Lining) (old new : Option Answering) (p q : Peer) (s t : S) → beside s s
-        → Opens {T = T} {E = E} dial line after result → OnOk result (new ≡ Some fresh) → OnErr result (new ≡ old) → (q ≡ p) × (t ≡ s)
-        → Follows replies beside line after (point line old p s) (point after new q t)
-    opens_follows T E dial (Ok done) line after old new p q s t goes is answering left same = rw (is.1, answering, same.0, same.1) (opened dial line old p s goes is.0)
-    opens_follows T E dial (Err fault) line after old new p q s t goes is answering left same = rw (left, same.0, same.1) (refused_or_wanting dial line after old p s goes is)
+    pub not_said_follows : (piece : List ℕ) (line after : Lining) → line.is_open ≡ true → after ≡ wanting line → Turns line after
+    not_said_follows piece line after opened is a p s goes = one_follows (NotSaid piece) _ _ goes (opened, ap (λ (l : Lining). point l a p s) is)
+
+    -- the line with the piece that is handed over ends as the one without it
+    same_end : (piece : List ℕ) (line more : Lining) → more ≡ saying piece line → line.ended ≡ more.ended
+    same_end piece line more is = sym (ap (λ (l : Lining). l.ended) is)
+
+    pub said_follows : (T E : Type 0) (done : T) (piece : List ℕ) (line more after : Lining) (old : Option Answering) (p : Peer) (s : S) (new : Option Answering) (q : Peer) (t : S)
+        → line.is_open ≡ true → more ≡ saying piece line → after ≡ more → HandsOver {T = T} {E = E} replies piece (Ok done) more.ended old p s new q t → beside s t
+        → Follows replies beside (point line old p s) (point after new q t)
+    said_follows T E done piece line more after old p s new q t opened is left hands goes =
+        let one = said T E done piece more.ended line old p s new q t opened (same_end piece line more is) hands in
+        rw (left, is) (one_follows one.0 _ _ goes one.1)
+
+    pub unserved_follows : (T E : Type 0) (fault : E) (piece : List ℕ) (line more after : Lining) (old : Option Answering) (p : Peer) (s : S) (new : Option Answering) (q : Peer) (t : S)
+        → line.is_open ≡ true → more ≡ saying piece line → after ≡ wanting line → HandsOver {T = T} {E = E} replies piece (Err fault) more.ended old p s new q t → beside s t
+        → Follows replies beside (point line old p s) (point after new q t)
+    unserved_follows T E fault piece line more after old p s new q t opened is back hands goes =
+        let one = not_said T E fault piece more.ended line old p s new q t opened (same_end piece line more is) hands in
+        rw back (one_follows one.0 _ _ goes one.1)
+
+    pub shut_follows : (line after : Lining) → after ≡ shutting line → Turns line after
+    shut_follows line after is a p s goes = one_follows Shut _ _ goes (ap (λ (l : Lining). point l a p s) is)

@@ -4,7 +4,7 @@ use Rattle.std.specs.Prelude.{nat_lt}
 use Rattle.std.proofs.lemmas.List.{append-nil, take-append-le}
 use Rattle.std.proofs.Math.Seq.{take-append_seam}
 use Rattle.satp_base.specs.Wires.{hears, says}
-use Rattle.satp_loop.specs.Lines.{Lining, hearing, traffic_of, wanting}
+use Rattle.satp_loop.specs.Lines.{Lining, hearing, saying, traffic_of, wanting}
 
 take_none : (n : ℕ) → take {A = ℕ} n [] ≡ []
 take_none zero = refl
@@ -24,7 +24,7 @@ pub hears_told : (line : Lining) (answers into : List ℕ) (n room : ℕ) → li
 hears_told line answers into n room opened bytes = rw (opened, bytes, take_then line.place n answers, append-nil line.said) refl
 
 pub says_told : (line : Lining) (answers more piece : List ℕ) → line.is_open ≡ true → line.place ≤ length answers
-    → traffic_of (record line { said = line.said ++ piece }) (answers ++ more) ≡ says piece (traffic_of line answers)
+    → traffic_of (saying piece line) (answers ++ more) ≡ says piece (traffic_of line answers)
 says_told line answers more piece opened within = rw (opened, take-append-le line.place answers more within, append-nil (take line.place answers), or_false line.ended) refl
 
 -- what was taken back isn't told

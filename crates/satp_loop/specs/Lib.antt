@@ -3,4 +3,5 @@ pub mod Peers
 pub mod Lines
 pub mod Following
 pub mod FollowingLaws
+pub mod Counting
 pub mod LineLaws

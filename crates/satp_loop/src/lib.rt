@@ -2,6 +2,7 @@
 #![tactic(auto)]
 
 mod answering;
+mod laws;
 mod line;
 mod loop_wire;
 mod mail;
@@ -9,6 +10,7 @@ mod peer;
 mod seat;
 mod troubles;
 
+pub use laws::law_counts;
 pub use loop_wire::LoopWire;
 pub use mail::Mail;
 pub use peer::Peer;

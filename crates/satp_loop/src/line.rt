@@ -1,10 +1,10 @@
 // The bytes of a wire's one connection.
-ghost use Rattle.std.specs.Prelude.{◌≡◌, ◌≤◌, ◌+◌, ◌-◌, ◌^◌, ◌++◌, ◌∷◌, [], true, false, ℕ, List, length, take, drop, OnOk, OnErr};
+ghost use Rattle.std.specs.Prelude.{◌≡◌, ◌≤◌, ◌+◌, ◌-◌, ◌^◌, ◌⊎◌, true, false, ℕ, List, length, take, drop, OnOk, OnErr};
 ghost use Rattle.satp_base.specs.Calls.{Reads};
 ghost use Rattle.satp_base.specs.Streams.{HasCause, Rose};
-ghost use Rattle.satp_loop.specs.Lines.{Misses, Opens, dialled, hearing, quiet, traffic_of, wanting};
+ghost use Rattle.satp_loop.specs.Lines.{audible, dialled, hearing, listening, opening, quiet, refused, saying, shutting, traffic_of, wanting};
 
-use satp_base::{Dial, WireFault};
+use satp_base::{Address, Dial, WireFault};
 use std::alloc::Global;
 use std::marker::Model;
 
@@ -67,63 +67,92 @@ impl Line {
         self.wants = self.wants.saturating_add(1);
     }
 
-    /// Notes a call that is told by name. It fails where it is barred, or where no memory is found to note it.
-    fn dial(&mut self, dial: Dial, barred: bool) -> Result<(), WireFault>
-        ensures ok { OnOk result ((barred ≡ false) × (self.new ≡ dialled dial self.old)) }
-        ensures err { OnErr result (Misses barred dial self.old self.new) }
+    /// Whether the one connection was opened.
+    pub fn was_opened(&self) -> bool
+        ensures { result ≡ self.now.used }
+    {
+        self.used
+    }
+
+    /// Whether the end of what the peer says was heard.
+    pub fn has_ended(&self) -> bool
+        ensures { result ≡ self.now.ended }
+    {
+        self.ended
+    }
+
+    /// Notes a call that is told by name. It fails where no memory is found to note it.
+    fn dial(&mut self, dial: Dial) -> Result<(), WireFault>
+        ensures ok { OnOk result (self.new ≡ dialled dial self.old) }
+        ensures err { OnErr result (self.new ≡ wanting self.old) }
         ensures cause { HasCause self.old.faults self.new.faults result }
     {
         if self.dials.push(dial).is_err() {
             self.want();
             return Err(WireFault);
         }
-        if barred {
-            self.faults = self.faults.saturating_add(1);
-            return Err(WireFault);
-        }
+        Ok(())
+    }
+
+    /// Begins to listen.
+    pub fn listen(&mut self, at: Address) -> Result<(), WireFault>
+        ensures ok { OnOk result (self.new ≡ listening at self.old) }
+        ensures err { OnErr result (self.new ≡ wanting self.old) }
+        ensures cause { HasCause self.old.faults self.new.faults result }
+    {
+        self.dial(Dial::Listen { at })?;
+        self.listens = true;
         Ok(())
     }
 
     /// Opens the one connection.
     pub fn open(&mut self, dial: Dial) -> Result<(), WireFault>
-        ensures ends { Opens dial self.old self.new result }
+        requires { self.old.used ≡ false }
+        ensures ok { OnOk result (self.new ≡ opening dial self.old) }
+        ensures err { OnErr result (self.new ≡ wanting self.old) }
         ensures cause { HasCause self.old.faults self.new.faults result }
     {
-        self.dial(dial, self.used)?;
+        self.dial(dial)?;
         self.used = true;
         self.is_open = true;
         Ok(())
     }
 
-    /// Begins to listen.
-    pub fn listen(&mut self, dial: Dial) -> Result<(), WireFault>
-        ensures ok { OnOk result (self.new ≡ record (dialled dial self.old) { listens = true }) }
-        ensures err { OnErr result (self.new ≡ wanting self.old) }
-        ensures cause { HasCause self.old.faults self.new.faults result }
+    /// Refuses a connection. Where no memory is found to note it, that alone is counted.
+    pub fn refuse(&mut self, dial: Dial) -> WireFault
+        ensures ends { (self.new ≡ refused dial self.old) ⊎ (self.new ≡ wanting self.old) }
+        ensures second { self.old.used ≡ true → self.new ≡ refused dial self.old → 2 ≤ length self.new.dials }
+        ensures rose { Rose self.old.faults self.new.faults }
     {
-        self.dial(dial, false)?;
-        self.listens = true;
-        Ok(())
+        match self.dials.push(dial) {
+            Ok(()) => self.faults = self.faults.saturating_add(1),
+            Err(_) => self.want(),
+        }
+        WireFault
     }
 
-    /// Hears as many of the peer's bytes as there are and fit.
+    /// Hears as many of the peer's bytes as are left and fit. After the end was heard there are none.
     pub fn hear(&mut self, answers: &[u8], into: &mut [u8]) -> usize
         requires { self.old.is_open ≡ true }
+        ensures count { result ≡ audible self.old answers.now (length into.new) }
         ensures within { result ≤ length into.new }
         ensures bytes { take result into.new ≡ take result (drop self.old.place answers.now) }
         ensures heard { self.new ≡ hearing result (length into.new) self.old }
         ensures place { self.old.place ≤ length answers.now → self.new.place ≤ length answers.now }
     {
+        if self.ended {
+            return 0;
+        }
         let count = copy_from(answers, self.place, into);
         self.place += count;
-        self.ended = self.ended || count == 0 && into.len() > 0;
+        self.ended = count == 0 && into.len() > 0;
         count
     }
 
     /// Says a piece. Where no memory is found that is counted, and nothing is said.
     pub fn say(&mut self, piece: &[u8]) -> Result<(), WireFault>
         requires { self.old.is_open ≡ true }
-        ensures ok { OnOk result (self.new ≡ record self.old { said = self.old.said ++ piece.now }) }
+        ensures ok { OnOk result (self.new ≡ saying piece.now self.old) }
         ensures err { OnErr result (self.new ≡ wanting self.old) }
         ensures cause { HasCause self.old.faults self.new.faults result }
     {
@@ -149,7 +178,7 @@ impl Line {
 
     /// Ends the connection.
     pub fn shut(&mut self)
-        ensures shut { self.new ≡ record self.old { is_open = false } }
+        ensures shut { self.new ≡ shutting self.old }
         ensures told { (answers : List ℕ) → traffic_of self.new answers ≡ traffic_of self.old answers }
     {
         self.is_open = false;

@@ -16,6 +16,8 @@ use std::alloc::Global;
 ///
 /// It opens one connection, and refuses a second one. Each other call fails only where no memory was found, here or by the peer. A failure of the peer's site is none of the wire:
 /// the peer says so if it can, and closes the connection.
+///
+/// A read that finds nothing left to hear, with room for it, hears the end, whether or not the peer has closed the connection. From then on nothing more is heard, and nobody hears what is said.
 #[derive(Drop)]
 pub struct LoopWire<S: Site> {
     alloc: Global,
@@ -31,7 +33,7 @@ impl<S: Site> LoopWire<S> {
     ghost use Rattle.std.specs.Prelude.{◌≡◌, ◌++◌, ℕ, List, None, Some, OnOk, OnErr};
     ghost use Rattle.satp_base.specs.Streams.{HasCause};
     ghost use Rattle.satp_loop.specs.Following.{HandsOver, answers_of, fresh};
-    ghost use Rattle.satp_loop.specs.Lines.{Opens, quiet};
+    ghost use Rattle.satp_loop.specs.Lines.{Misses, opening, quiet};
     ghost use Rattle.satp_loop.specs.Peers.{PeerReplies};
     ghost use Rattle.satp_serve.specs.GatewayReplies.{IsWithin, RepliesAt, site_view};
 
@@ -80,14 +82,16 @@ impl<S: Site> LoopWire<S> {
         )
     }
 
-    /// Opens the one connection.
+    /// Opens the one connection, or refuses a second one.
     fn begin(&mut self, dial: Dial) -> Result<(), WireFault>
-        ensures ends { Opens dial self.old.line self.new.line result }
-        ensures ok { OnOk result (self.new.answering ≡ Some fresh) }
-        ensures err { OnErr result (self.new.answering ≡ self.old.answering) }
+        ensures ok { OnOk result ((self.old.line.used ≡ false) × (self.new.line ≡ opening dial self.old.line) × (self.new.answering ≡ Some fresh)) }
+        ensures err { OnErr result (Misses dial self.old.line self.new.line × (self.new.answering ≡ self.old.answering)) }
         ensures peer { (self.new.peer ≡ self.old.peer) × (self.new.site ≡ self.old.site) }
         ensures cause { HasCause self.old.line.faults self.new.line.faults result }
     {
+        if self.line.was_opened() {
+            return Err(self.line.refuse(dial));
+        }
         let Ok(answering) = Answering::new(self.alloc) else {
             self.line.want();
             return Err(WireFault);
@@ -97,14 +101,17 @@ impl<S: Site> LoopWire<S> {
         Ok(())
     }
 
-    /// Hands a piece to the peer.
+    /// Hands a piece to the peer. After the end was heard, nobody hears it.
     #[tactic(auto, using(crate::proofs::Keeping::within_from, crate::proofs::Keeping::fits_from))]
     fn hand_over(&mut self, piece: &[u8]) -> Result<(), Memory>
-        ensures hands { HandsOver (PeerReplies (RepliesAt (site_view S.told S.book S.faults) S.beside)) piece.now result self.old.answering self.old.peer self.old.site self.new.answering self.new.peer self.new.site }
+        ensures hands { HandsOver (PeerReplies (RepliesAt (site_view S.told S.book S.faults) S.beside)) piece.now result self.old.line.ended self.old.answering self.old.peer self.old.site self.new.answering self.new.peer self.new.site }
         ensures line { self.new.line ≡ self.old.line }
         ensures grows { (more : List ℕ) × (answers_of self.new.answering ≡ answers_of self.old.answering ++ more) }
         ensures beside { S.beside self.old.site self.new.site }
     {
+        if self.line.has_ended() {
+            return Ok(());
+        }
         match &mut self.answering {
             Some(answering) => answering.hear(self.alloc, &mut self.peer, &mut self.site, piece),
             None => Ok(()),
@@ -129,11 +136,11 @@ impl<S: Site> Wire for LoopWire<S> {
 
     ghost is_open = { λ w. w.line.is_open };
 
-    ghost beside = { λ old new. Follows (PeerReplies (RepliesAt (site_view S.told S.book S.faults) S.beside)) S.beside old.line new.line
+    ghost beside = { λ old new. Follows (PeerReplies (RepliesAt (site_view S.told S.book S.faults) S.beside)) S.beside
         (point old.line old.answering old.peer old.site) (point new.line new.answering new.peer new.site) };
 
     fn listen(&mut self, at: &Address) -> Result<(), WireFault> {
-        self.line.listen(Dial::Listen { at: *at })
+        self.line.listen(*at)
     }
 
     fn accept(&mut self) -> Result<(), WireFault> {
@@ -168,8 +175,8 @@ impl<S: Site> Wire for LoopWire<S> {
 
     ghost one_open = { λ w t told opened. one_is_open w.line (answers_of w.answering) t told opened };
 
-    ghost beside_same = { λ w. follows_same (PeerReplies (RepliesAt (site_view S.told S.book S.faults) S.beside)) S.beside S.beside_same w.line (point w.line w.answering w.peer w.site) };
+    ghost beside_same = { λ w. follows_same (PeerReplies (RepliesAt (site_view S.told S.book S.faults) S.beside)) S.beside S.beside_same (point w.line w.answering w.peer w.site) };
 
-    ghost beside_then = { λ a b c. follows_then (PeerReplies (RepliesAt (site_view S.told S.book S.faults) S.beside)) S.beside S.beside_then a.line b.line c.line
+    ghost beside_then = { λ a b c. follows_then (PeerReplies (RepliesAt (site_view S.told S.book S.faults) S.beside)) S.beside S.beside_then
         (point a.line a.answering a.peer a.site) (point b.line b.answering b.peer b.site) (point c.line c.answering c.peer c.site) };
 }

@@ -9,4 +9,4 @@ returns-clause-beside g c =
     let old = c.args.self.now in
     let new = c.begin.new.self in
     opens_follows (PeerReplies (RepliesAt (site_view g.S.Device.told g.S.Device.book g.S.Device.faults) g.S.Device.beside)) g.S.Device.beside _ _ (Connect c.args.at.now) c.begin.result old.line new.line old.answering new.answering old.peer new.peer old.site new.site
-    (g.S.Device.beside_same old.site) c.begin.ensures.ends c.begin.ensures.ok c.begin.ensures.err c.begin.ensures.peer
+    tt (g.S.Device.beside_same old.site) c.begin.ensures.ok c.begin.ensures.err c.begin.ensures.peer

@@ -7,6 +7,7 @@ use Rattle.satp_app.specs.Replay.{journal_form, replay_says}
 use Rattle.satp_base.specs.declared.amount.Amount.{Amount}
 use Rattle.satp_base.specs.declared.message.Terms.{Terms}
 use Rattle.satp_base.specs.declared.name.Name.{Name}
+use Rattle.satp_drill_command.specs.Drilling.{DrillRule}
 use Rattle.satp_gateway_commands.specs.Aborting.{AbortWorks}
 use Rattle.satp_gateway_commands.specs.AtGateway.{AtGateway}
 use Rattle.satp_gateway_commands.specs.Showing.{ShowWorks}
@@ -20,7 +21,7 @@ use Rattle.satp_peer_commands.specs.Driving.{RecoverWorks, ResumeWorks, StartWor
 use Rattle.satp_peer_commands.specs.Serving.{ServeWorks}
 use Rattle.satp_words.specs.Commands.{IsListed, NotListed}
 use Rattle.satp_words.specs.declared.command.Command.{Command}
-use Rattle.satp_words.specs.declared.command.Command.TheVariants.{Answer, Check, Init, Abort, Show, Serve, Start, Resume, Recover, Replay}
+use Rattle.satp_words.specs.declared.command.Command.TheVariants.{Answer, Check, Init, Abort, Show, Serve, Start, Resume, Recover, Replay, Drill}
 
 -- neither the site nor the wire was touched
 abbrev pub LeavesPlace : OutsideState → OutsideState → Type 0
@@ -42,6 +43,7 @@ CommandRule (Start dir number amount asset from to) b a outcome = AtGateway dir 
 CommandRule (Resume dir session) b a outcome = AtGateway dir (ResumeWorks session) b a outcome
 CommandRule (Recover dir session) b a outcome = AtGateway dir (RecoverWorks session) b a outcome
 CommandRule Replay b a outcome = StreamRule journal_form replay_says b.streams a.streams outcome × LeavesPlace b a
+CommandRule (Drill seed) b a outcome = DrillRule seed b.streams a.streams outcome × LeavesPlace b a
 
 -- the command that the words list ends so
 abbrev pub Listed : List (List ℕ) → OutsideState → OutsideState → Outcome → Type 0

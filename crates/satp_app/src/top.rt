@@ -8,6 +8,7 @@ use crate::check_command::{check, check_signed};
 use crate::init_command::init;
 use crate::replay_command::replay;
 use satp_base::{Sink, Site, Source, Terms, Texts, Wire};
+use satp_drill_command::drill;
 use satp_gateway_commands::{abort, show};
 use satp_jws::Key;
 use satp_outcome::{Outcome, report};
@@ -24,7 +25,8 @@ use std::alloc::Global;
 /// Then `show` prints a session and `abort` turns one back; `serve` listens, and hands what its peers post to the gateway; the last three drive a session over one connection to the gateway's peer, and print how it ended.
 /// `answer` prints the receipt of the transfer proposal on the input, `check` the kind and length of the canonical text on it, with a key those of a compact JWS of one;
 /// they drop one final newline of the input. `replay` prints the sessions of the journal whose bytes are the input, and how many records it has.
-/// These three make no call on the site. Only `serve` and the drives make a call on the wire.
+/// `drill` carries out the schedule of a seed, for the seed 0 that on the input, and prints what it comes to; at another seed it leaves the input alone.
+/// These four make no call on the site. Only `serve` and the drives make a call on the wire.
 ///
 /// Of the statuses the first that holds counts:
 ///
@@ -33,7 +35,7 @@ use std::alloc::Global;
 /// - 9: the journal is damaged, or one of its records may not stand there.
 /// - 13: no gateway was set up there; for `init`, one was.
 /// - 11: a read of the input failed.
-/// - 5: the input isn't what the command reads, or is longer than 8,192 bytes, for `init` 65,536, for `replay` 134,217,728.
+/// - 5: the input isn't what the command reads, or is longer than 8,192 bytes, for `init` 65,536, for `replay` 134,217,728, for `drill` 262,144.
 ///   It is read to its end, or to the first byte past the longest input.
 /// - 3: no record of the gateway names the session.
 /// - 4: `answer`: the proposal's receiver isn't the gateway named. `abort`: a message of the session decides it already. `start`: a record names the session, or as many were started as may be.
@@ -165,5 +167,6 @@ fn perform<S: Site, W: Wire, I: Source, K: Sink>(
         Command::Resume { dir, session } => resume(alloc, &dir, session, site, wire, out),
         Command::Recover { dir, session } => recover(alloc, &dir, session, site, wire, out),
         Command::Replay => replay(alloc, input, out),
+        Command::Drill { seed } => drill(alloc, seed, input, out),
     }
 }

@@ -5,7 +5,7 @@ use std::alloc::Global;
 const REFUSED: &[u8] = b"refused";
 
 /// Words, parted by one space, and the command that they list with its values.
-const ROWS: [(&[u8], &[u8]); 60] = [
+const ROWS: [(&[u8], &[u8]); 67] = [
     (b"answer beta", b"answer beta"),
     (b"answer", REFUSED),
     (b"answer Beta", REFUSED),
@@ -164,7 +164,14 @@ const ROWS: [(&[u8], &[u8]); 60] = [
     (b"replay --", b"replay"),
     (b"replay journal-a", REFUSED),
     (b"replay --dir d", REFUSED),
-    (b"drill --seed 7", REFUSED),
+    (b"drill --seed 7", b"drill 7"),
+    (b"drill --seed=0 --", b"drill 0"),
+    (b"drill --seed 4294967295", b"drill 4294967295"),
+    (b"drill --seed 4294967296", REFUSED),
+    (b"drill --seed 07", REFUSED),
+    (b"drill --seed -1", REFUSED),
+    (b"drill 7", REFUSED),
+    (b"drill", REFUSED),
 ];
 
 /// Adds the words of a line.
@@ -276,6 +283,10 @@ fn put_command(text: &mut Text, command: &Command) {
         Command::Abort { dir, session } => put_session(text, b"abort", dir, session),
         Command::Show { dir, session } => put_session(text, b"show", dir, session),
         Command::Replay => put(text, b"replay"),
+        Command::Drill { seed } => {
+            put(text, b"drill ");
+            put_number(text, u64::from(*seed));
+        }
     }
 }
 

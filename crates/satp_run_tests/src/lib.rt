@@ -1,10 +1,10 @@
-//! Tests of gateways that are set up at a site in memory, by the program's `run` and by the call below it, and of runs of `replay`.
+//! Tests of gateways that are set up at a site in memory, by the program's `run` and by the call below it, and of runs of `replay` and `drill`.
 #![tactic(auto)]
 
 #[cfg(test)]
-mod replay_tests;
+mod input_runs;
 #[cfg(test)]
-mod replays;
+mod input_tests;
 #[cfg(test)]
 mod set_up_tests;
 #[cfg(test)]

@@ -18,7 +18,7 @@ use Rattle.satp_base.specs.declared.session.SessionId.{SessionId}
 use Rattle.satp_words.specs.Options.{HasMatches, IsUtf8All, value}
 use Rattle.satp_words.specs.Commands.{Begins, HasOptions, HasValues, IsCommand, IsListed, NotListed, form, verb_of, verb_text}
 use Rattle.satp_words.specs.declared.command.Command.{Command}
-use Rattle.satp_words.specs.declared.command.Command.TheVariants.{Answer, Check, Init, Serve, Start, Resume, Recover, Abort, Show, Replay}
+use Rattle.satp_words.specs.declared.command.Command.TheVariants.{Answer, Check, Init, Serve, Start, Resume, Recover, Abort, Show, Replay, Drill}
 use Rattle.satp_words.specs.declared.verbs.Verb.{Verb}
 use Rattle.satp_words.specs.declared.verbs.Verb.TheVariants as verb
 
@@ -43,7 +43,8 @@ verb_at w =
     else (if bytes_eq w (codes "recover") then Some (Some verb.Recover)
     else (if bytes_eq w (codes "abort") then Some (Some verb.Abort)
     else (if bytes_eq w (codes "show") then Some (Some verb.Show)
-    else (if bytes_eq w (codes "replay") then Some (Some verb.Replay) else None)))))))))
+    else (if bytes_eq w (codes "replay") then Some (Some verb.Replay)
+    else (if bytes_eq w (codes "drill") then Some (Some verb.Drill) else None))))))))))
 
 at_text : (v : Option Verb) → verb_at (first_text v) ≡ Some v
 at_text None = refl
@@ -56,6 +57,7 @@ at_text (Some verb.Recover) = refl
 at_text (Some verb.Abort) = refl
 at_text (Some verb.Show) = refl
 at_text (Some verb.Replay) = refl
+at_text (Some verb.Drill) = refl
 
 same_verb : (v w : Option Verb) → first_text v ≡ first_text w → v ≡ w
 same_verb v w e = same_some _ _ (sym (at_text v) ∙ ap verb_at e ∙ at_text w)
@@ -79,6 +81,7 @@ begins_of words (Recover dir session) l = l.is_command.first
 begins_of words (Abort dir session) l = l.is_command.first
 begins_of words (Show dir session) l = l.is_command.first
 begins_of words Replay l = l.is_command.first
+begins_of words (Drill seed) l = l.is_command.first
 
 -- the first word of a listed command is its verb
 pub is_verb : (words : List Text) (v : Option Verb) → Begins words (first_text v) → (c : Command) → IsListed words c → verb_of c ≡ v
@@ -119,6 +122,7 @@ only_answer words b h c l = of_none c (is_verb words None b c l) l
     of_none (Abort dir session) e l = cc
     of_none (Show dir session) e l = cc
     of_none Replay e l = cc
+    of_none (Drill seed) e l = cc
 
 pub two : (a : Text) (rest words : List Text) (w : Text) → words ≡ a ∷ rest → length words ≡ 2 → Some w ≡ slice_get words 1 → words ≡ a ∷ w ∷ []
 two a [] words w e l g = let bad : length words ≡ 1 = ap length e in absurd (omega arith)
@@ -181,6 +185,7 @@ Each P (Some verb.Recover) = (dir : List ℕ) (session : SessionId) → P (Recov
 Each P (Some verb.Abort) = (dir : List ℕ) (session : SessionId) → P (Abort dir session)
 Each P (Some verb.Show) = (dir : List ℕ) (session : SessionId) → P (Show dir session)
 Each P (Some verb.Replay) = P Replay
+Each P (Some verb.Drill) = (seed : ℕ) → P (Drill seed)
 
 pub of_verb : (P : Command → Type 0) (v : Option Verb) → Each P v → (c : Command) → verb_of c ≡ v → P c
 of_verb P v h (Answer name) e = subst (Each P) (sym e) h name
@@ -193,6 +198,7 @@ of_verb P v h (Recover dir session) e = subst (Each P) (sym e) h dir session
 of_verb P v h (Abort dir session) e = subst (Each P) (sym e) h dir session
 of_verb P v h (Show dir session) e = subst (Each P) (sym e) h dir session
 of_verb P v h Replay e = subst (Each P) (sym e) h
+of_verb P v h (Drill seed) e = subst (Each P) (sym e) h seed
 
 -- words list a command of a verb exactly if they are of that verb and its options have the values
 pub options_of : (v : Verb) (words : List Text) (c : Command) → verb_of c ≡ Some v → IsListed words c → HasOptions v words c
@@ -206,6 +212,7 @@ options_of v words (Recover dir session) e l = subst (λ w. HasOptions w words (
 options_of v words (Abort dir session) e l = subst (λ w. HasOptions w words (Abort dir session)) (same_some _ _ e) l
 options_of v words (Show dir session) e l = subst (λ w. HasOptions w words (Show dir session)) (same_some _ _ e) l
 options_of v words Replay e l = subst (λ w. HasOptions w words Replay) (same_some _ _ e) l
+options_of v words (Drill seed) e l = subst (λ w. HasOptions w words (Drill seed)) (same_some _ _ e) l
 
 listed_by : (words : List Text) (v : Verb) (c : Command) → HasOptions v words c → verb_of c ≡ Some v → IsListed words c
 listed_by words verb.Check c o e = of_verb (λ c. HasOptions verb.Check words c → IsListed words c) (Some verb.Check) (λ key o. o) c e o
@@ -217,6 +224,7 @@ listed_by words verb.Recover c o e = of_verb (λ c. HasOptions verb.Recover word
 listed_by words verb.Abort c o e = of_verb (λ c. HasOptions verb.Abort words c → IsListed words c) (Some verb.Abort) (λ dir session o. o) c e o
 listed_by words verb.Show c o e = of_verb (λ c. HasOptions verb.Show words c → IsListed words c) (Some verb.Show) (λ dir session o. o) c e o
 listed_by words verb.Replay c o e = of_verb (λ c. HasOptions verb.Replay words c → IsListed words c) (Some verb.Replay) (λ o. o) c e o
+listed_by words verb.Drill c o e = of_verb (λ c. HasOptions verb.Drill words c → IsListed words c) (Some verb.Drill) (λ seed o. o) c e o
 
 pub listed : (words : List Text) (v : Verb) (c : Command) → IsCommand (verb_text v) (form v) words → (verb_of c ≡ Some v) × HasValues (value (form v) words) c → IsListed words c
 listed words v c k (e, h) = listed_by words v c (record { is_command = k; has_values = h }) e

@@ -17,7 +17,7 @@ use Rattle.satp_base.specs.declared.session.SessionId.{SessionId}
 use Rattle.satp_words.specs.Options.{value}
 use Rattle.satp_words.specs.Commands.{HasValues, InitValues, IsKey, IsListed, IsNumber, MayBe, NotListed, OneCommand, ServeValues, SessionValues, StartValues, form, ledger_text, verb_of}
 use Rattle.satp_words.specs.declared.command.Command.{Command}
-use Rattle.satp_words.specs.declared.command.Command.TheVariants.{Answer, Check, Init, Serve, Start, Resume, Recover, Abort, Show, Replay}
+use Rattle.satp_words.specs.declared.command.Command.TheVariants.{Answer, Check, Init, Serve, Start, Resume, Recover, Abort, Show, Replay, Drill}
 use Rattle.satp_words.specs.declared.command.WordsFault.{WordsFault}
 use Rattle.satp_words.specs.declared.command.WordsFault.TheVariants.{Refused, Memory}
 use Rattle.satp_words.specs.declared.verbs.Verb.{Verb}
@@ -94,6 +94,7 @@ one_values v (Recover dir s) d e p = of_verb (λ d. HasValues v d → Recover di
 one_values v (Abort dir s) d e p = of_verb (λ d. HasValues v d → Abort dir s ≡ d) (Some verb.Abort) (λ dir' s' q. let r = one_session v dir dir' s s' p q in λ i. Abort (r.0 i) (r.1 i)) d e
 one_values v (Show dir s) d e p = of_verb (λ d. HasValues v d → Show dir s ≡ d) (Some verb.Show) (λ dir' s' q. let r = one_session v dir dir' s s' p q in λ i. Show (r.0 i) (r.1 i)) d e
 one_values v Replay d e p = of_verb (λ d. HasValues v d → Replay ≡ d) (Some verb.Replay) (λ q. refl) d e
+one_values v (Drill seed) d e p = of_verb (λ d. HasValues v d → Drill seed ≡ d) (Some verb.Drill) (λ other q. ap Drill (one_number 0 greatest_number (omega arith) (v (codes "seed")) seed other p q)) d e
 
 -- ---- words list one command at most
 
@@ -120,6 +121,7 @@ same_command words (Recover dir s) b l k = one_of_verb words verb.Recover (Recov
 same_command words (Abort dir s) b l k = one_of_verb words verb.Abort (Abort dir s) b refl l k
 same_command words (Show dir s) b l k = one_of_verb words verb.Show (Show dir s) b refl l k
 same_command words Replay b l k = one_of_verb words verb.Replay Replay b refl l k
+same_command words (Drill seed) b l k = one_of_verb words verb.Drill (Drill seed) b refl l k
 
 -- so where they list one, no other is read
 pub complete_of : (words : List Text) (r : Result Command WordsFault) → IfOk r (IsListed words) → (r ≡ Err Refused → NotListed words) → (command : Command) → IsListed words command → MatchResult r (λ found. found ≡ command) (λ fault. fault ≡ Memory)

@@ -13,7 +13,7 @@ use Rattle.satp_base.specs.declared.name.Name.{Name}
 use Rattle.satp_base.specs.declared.session.SessionId.{SessionId}
 use Rattle.satp_words.specs.Options.{IsUtf8All, Takes, app, named, value}
 use Rattle.satp_words.specs.declared.command.Command.{Command}
-use Rattle.satp_words.specs.declared.command.Command.TheVariants.{Answer, Check, Init, Serve, Start, Resume, Recover, Abort, Show, Replay}
+use Rattle.satp_words.specs.declared.command.Command.TheVariants.{Answer, Check, Init, Serve, Start, Resume, Recover, Abort, Show, Replay, Drill}
 use Rattle.satp_words.specs.declared.verbs.Verb.{Verb}
 use Rattle.satp_words.specs.declared.verbs.Verb.TheVariants as verb
 
@@ -30,6 +30,7 @@ verb_text verb.Recover = codes "recover"
 verb_text verb.Abort = codes "abort"
 verb_text verb.Show = codes "show"
 verb_text verb.Replay = codes "replay"
+verb_text verb.Drill = codes "drill"
 
 -- an option that has to be there
 abbrev pub needed : Text → Rule
@@ -50,6 +51,7 @@ options verb.Recover = of_session
 options verb.Abort = of_session
 options verb.Show = of_session
 options verb.Replay = []
+options verb.Drill = needed (codes "seed") ∷ []
 
 abbrev pub form : Verb → App
 form v = app (verb_text v) (options v)
@@ -118,6 +120,7 @@ HasValues values (Recover dir session) = SessionValues values dir session
 HasValues values (Abort dir session) = SessionValues values dir session
 HasValues values (Show dir session) = SessionValues values dir session
 HasValues values Replay = Unit {0}
+HasValues values (Drill seed) = IsNumber 0 greatest_number (values (codes "seed")) seed
 
 -- ---- which words list which command
 
@@ -132,6 +135,7 @@ verb_of (Recover dir session) = Some verb.Recover
 verb_of (Abort dir session) = Some verb.Abort
 verb_of (Show dir session) = Some verb.Show
 verb_of Replay = Some verb.Replay
+verb_of (Drill seed) = Some verb.Drill
 
 -- the first word is this one
 abbrev pub Begins : List Text → Text → Type 0
@@ -160,6 +164,7 @@ IsListed words (Recover dir session) = HasOptions verb.Recover words (Recover di
 IsListed words (Abort dir session) = HasOptions verb.Abort words (Abort dir session)
 IsListed words (Show dir session) = HasOptions verb.Show words (Show dir session)
 IsListed words Replay = HasOptions verb.Replay words Replay
+IsListed words (Drill seed) = HasOptions verb.Drill words (Drill seed)
 
 -- they list none
 abbrev pub NotListed : List Text → Type 0

@@ -141,3 +141,18 @@ pub record ReplaysWords : Type 0 where
   pub of_another : fault_of replay (codes "replay" ∷ codes "--dir=d" ∷ []) ≡ kind.UnknownArgument ∷ []
   pub help : fault_of replay (codes "replay" ∷ codes "--help" ∷ []) ≡ kind.UnknownArgument ∷ []
   pub empty_word : fault_of replay (codes "replay" ∷ [] ∷ []) ≡ kind.UnknownArgument ∷ []
+
+-- ---- a command with one option
+
+abbrev pub drill : App
+drill = form verb.Drill
+
+pub record DrillsWords : Type 0 where
+  pub apart : Takes drill (codes "drill" ∷ codes "--seed" ∷ codes "7" ∷ [])
+  pub attached : Takes drill (codes "drill" ∷ codes "--seed=7" ∷ [])
+  pub seed : (value drill (codes "drill" ∷ codes "--seed" ∷ codes "7" ∷ []) (codes "seed") ≡ Some (codes "7")) × (value drill (codes "drill" ∷ codes "--seed=7" ∷ []) (codes "seed") ≡ Some (codes "7"))
+  -- no seed, one without the option's name, one given twice, and an option of another command
+  pub missing : fault_of drill (codes "drill" ∷ []) ≡ kind.MissingRequiredArgument ∷ []
+  pub bare_seed : fault_of drill (codes "drill" ∷ codes "7" ∷ []) ≡ kind.UnknownArgument ∷ []
+  pub twice : fault_of drill (codes "drill" ∷ codes "--seed=7" ∷ codes "--seed=7" ∷ []) ≡ kind.ArgumentConflict ∷ []
+  pub of_another : fault_of drill (codes "drill" ∷ codes "--seed=7" ∷ codes "--dir=d" ∷ []) ≡ kind.UnknownArgument ∷ []

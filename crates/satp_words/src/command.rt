@@ -63,6 +63,11 @@ pub enum Command {
     },
     /// `replay`: read the bytes of a journal and print its sessions.
     Replay,
+    /// `drill --seed <seed>`: carry out a schedule between two new gateways and print what it comes to. It is the
+    /// schedule of the seed, 1 to 4,294,967,295, and for 0 that on the input.
+    Drill {
+        seed: u32,
+    },
 }
 
 /// Why words list no command.

@@ -49,6 +49,9 @@ pub(crate) fn values(alloc: Global, verb: Verb, found: &ArgMatches) -> Result<Co
             Ok(Command::Show { dir, session })
         }
         Verb::Replay => Ok(Command::Replay),
+        Verb::Drill => Ok(Command::Drill {
+            seed: number_value(found, "seed", 0, u32::MAX)?,
+        }),
     }
 }
 

@@ -51,6 +51,7 @@ pub(crate) fn options_of<'a>(
         Verb::Abort => session_options(alloc, "abort", words),
         Verb::Show => session_options(alloc, "show", words),
         Verb::Replay => matches(alloc, "replay", &[], words),
+        Verb::Drill => matches(alloc, "drill", &[needed("seed")], words),
     }
 }
 

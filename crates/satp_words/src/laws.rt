@@ -1,10 +1,10 @@
 //! Theorems on words. They stand over definitions alone and make no call.
 
 ghost use Rattle.satp_words.specs.Commands.{OneCommand};
-ghost use Rattle.satp_words.specs.Examples.{ChecksWords, InitsWords, RefusesOptions, ReplaysWords, TakesOptions, TransfersWords};
+ghost use Rattle.satp_words.specs.Examples.{ChecksWords, DrillsWords, InitsWords, RefusesOptions, ReplaysWords, TakesOptions, TransfersWords};
 
 /// A command takes an option as `--name value` and as `--name=value`, in any order, once, and one `--` at the end;
-/// `check` may have a key and knows no help; `init` has six options, each once; the commands on transfers have theirs; and `replay` has none.
+/// `check` may have a key and knows no help; `init` has six options, each once; the commands on transfers have theirs; `replay` has none; and `drill` has its seed.
 pub fn law_examples()
     ensures takes { TakesOptions }
     ensures refuses { RefusesOptions }
@@ -12,6 +12,7 @@ pub fn law_examples()
     ensures init { InitsWords }
     ensures transfers { TransfersWords }
     ensures replay { ReplaysWords }
+    ensures drill { DrillsWords }
 {}
 
 /// Words list at most one command.

@@ -14,6 +14,7 @@ pub(crate) enum Verb {
     Abort,
     Show,
     Replay,
+    Drill,
 }
 
 /// The command that a first word names.
@@ -39,6 +40,8 @@ pub(crate) fn find_verb(word: &[u8]) -> Option<Verb>
         Some(Verb::Show)
     } else if word == b"replay".as_slice() {
         Some(Verb::Replay)
+    } else if word == b"drill".as_slice() {
+        Some(Verb::Drill)
     } else {
         None
     }

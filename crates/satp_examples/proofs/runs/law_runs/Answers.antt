@@ -1,4 +1,4 @@
-use Rattle.std.proofs.Common.{◌≡◌, ◌⊎◌, ◌<◌, ◌≤◌, ℕ, List, [], ◌∷◌, ◌++◌, Option, Some, None, length, option_map, refl, sym, ap, ◌∙◌, subst, inl, inr, arith, lit≤, lit<}
+use Rattle.std.proofs.Common.{◌≡◌, ◌⊎◌, ◌<◌, ◌≤◌, ℕ, zero, suc, List, [], ◌∷◌, ◌++◌, Option, Some, None, length, option_map, refl, sym, ap, ◌∙◌, subst, inl, inr, arith, lit≤, lit<}
 use Rattle.std.specs.Fmt.{digits}
 use Rattle.std.specs.Prelude.{codes, slice_index}
 use Rattle.base64.specs.Rfc4648.{encode_symbols}
@@ -27,7 +27,7 @@ use Rattle.satp_peer_commands.specs.Driving.{RecoverWorks, ResumeWorks, StartWor
 use Rattle.satp_peer_commands.specs.Serving.{ServeWorks}
 use Rattle.satp_words.specs.Commands.{IsListed}
 use Rattle.satp_words.specs.declared.command.Command.{Command}
-use Rattle.satp_words.specs.declared.command.Command.TheVariants.{Answer, Check, Init, Serve, Start, Resume, Recover, Abort, Show, Replay}
+use Rattle.satp_words.specs.declared.command.Command.TheVariants.{Answer, Check, Init, Serve, Start, Resume, Recover, Abort, Show, Replay, Drill}
 use Rattle.satp_examples.specs.Commands.{out}
 use Rattle.satp_examples.specs.Messages.{proposal_text}
 use Rattle.satp_examples.specs.Replies.{proposal, receipt}
@@ -75,6 +75,8 @@ refuses_no_words (Start dir number amount asset from to) a h = at_gateway dir (S
 refuses_no_words (Resume dir session) a h = at_gateway dir (ResumeWorks session) start a (λ g inside worked. of_drive _ g _ a worked) h
 refuses_no_words (Recover dir session) a h = at_gateway dir (RecoverWorks session) start a (λ g inside worked. of_drive _ g _ a worked) h
 refuses_no_words Replay a h = h.0
+refuses_no_words (Drill zero) a h = h.0.read refl
+refuses_no_words (Drill (suc n)) a h = (h.0.made (λ e. absurd cc)).1
 
 answers_beta : Does (Answer beta) receipt_line untouched
 answers_beta = (
@@ -190,6 +192,7 @@ none_listed (Recover dir session) h = let bad = h.is_command.first.1 in absurd c
 none_listed (Abort dir session) h = let bad = h.is_command.first.1 in absurd cc
 none_listed (Show dir session) h = let bad = h.is_command.first.1 in absurd cc
 none_listed Replay h = let bad = h.is_command.first.1 in absurd cc
+none_listed (Drill seed) h = let bad = h.is_command.first.1 in absurd cc
 
 done_without_words : (a : OutsideState) (said : SinkState) → Runs [] a said 0 → ⊥
 done_without_words a said (outcome, end, e, r) =

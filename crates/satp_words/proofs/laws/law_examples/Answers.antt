@@ -86,3 +86,15 @@ returns-clause-replay c = record {
   help = refl;
   empty_word = refl;
 }
+
+pub returns-clause-drill : goal.returns-clause-drill
+unfolding clap_on_literals
+returns-clause-drill c = record {
+  apart = refl;
+  attached = refl;
+  seed = (refl, refl);
+  missing = refl;
+  bare_seed = refl;
+  twice = refl;
+  of_another = refl;
+}

@@ -9,13 +9,12 @@ import statistics
 import sys
 import time
 
-import formats
 from counts import can_count, counted, counting
-from gateways import KEY, Pairs, Running, committed, free_ports, line, want
+from gateways import Pairs, Running, committed, free_ports, line, want
+from plain import ROWS, Side
 
 PAIRS = Pairs(sys.argv[1], sys.argv[2])
 TRANSFERS, ROUNDS = int(sys.argv[3]), int(sys.argv[4])
-TERMS = formats.terms(1, "gold", "ann", "bob")
 
 
 # The gateways of the program: a `start` for each transfer, against one that serves them all.
@@ -32,55 +31,20 @@ def ours():
     return TRANSFERS / seconds
 
 
-# The plain pair. What a gateway appends to its journal or its ledger is a row here, and a commit.
+# The plain pair: its sides are in bench/plain.py.
 
 
-class Side:
-    """Keeps the texts of its sessions, and the rows that a gateway of this role has as records and as operations."""
-
-    # After which place what rows come beside that of the text itself.
-    BESIDE = {
-        "origin": {4: ["lock", "did lock"], 8: ["chose commit", "burn", "did burn"]},
-        "recipient": {7: ["mint", "did mint"], 9: ["assign", "did assign"]},
-    }
-
-    def __init__(self, path, role):
-        self.role, self.chains = role, {}
-        self.base = sqlite3.connect(path, isolation_level=None, check_same_thread=False)
-        mode = self.base.execute("pragma journal_mode=wal").fetchone()[0]
-        self.base.execute("pragma synchronous=full")
-        if mode != "wal" or self.base.execute("pragma synchronous").fetchone()[0] != 2:
-            sys.exit("bench/transfer: SQLite refuses the settings")
-        self.base.execute("create table rows (number integer primary key, session text not null, what text not null, content blob not null)")
-
-    def row(self, session, what, content=b""):
-        self.base.execute("insert into rows (session, what, content) values (?, ?, ?)", (session, what, content))
-
-    def say(self, session):
-        """The side's next text, which is kept first."""
-        chain = self.chains.setdefault(session, formats.Chain(session, "alpha", "beta", KEY))
-        kind = formats.CHAIN[len(chain.texts)]
-        text = chain.push(kind, **({"terms": TERMS} if kind == formats.CHAIN[0] else {}))
-        self.row(session, kind, text.encode())
-        return text
-
-    def take(self, text):
-        """Verifies a text of the peer and keeps it, and what comes of it. Gives the session and whether it goes on."""
-        message = formats.message_in(text)
-        session = message["session"]
-        chain = self.chains.setdefault(session, formats.Chain(session, "alpha", "beta", KEY))
-        kind = formats.CHAIN[len(chain.texts)]
-        if text != chain.next(kind, **({"terms": message["terms"]} if kind == formats.CHAIN[0] else {})):
-            sys.exit(f"bench/transfer: the {kind} is another one")
-        chain.texts.append(text)
-        self.row(session, kind, text.encode())
-        for what in self.BESIDE[self.role].get(len(chain.texts), []):
-            self.row(session, what)
-        return session, len(chain.texts) < len(formats.CHAIN)
+def opened(path):
+    base = sqlite3.connect(path, isolation_level=None, check_same_thread=False)
+    mode = base.execute("pragma journal_mode=wal").fetchone()[0]
+    base.execute("pragma synchronous=full")
+    if mode != "wal" or base.execute("pragma synchronous").fetchone()[0] != 2:
+        sys.exit("bench/transfer: SQLite refuses the settings")
+    return base
 
 
 def recipient(path, port):
-    side = Side(path, "recipient")
+    side = Side(opened(path), "recipient")
 
     class Handler(http.server.BaseHTTPRequestHandler):
         protocol_version = "HTTP/1.1"
@@ -128,7 +92,7 @@ def theirs(name):
             break
         except ConnectionError:
             time.sleep(0.01)
-    side = Side(path("alpha"), "origin")
+    side = Side(opened(path("alpha")), "origin")
     begun = time.perf_counter()
     for number in range(1, TRANSFERS + 1):
         transfer(side, port, f"alpha.{number}")
@@ -136,7 +100,7 @@ def theirs(name):
     process.kill()
     process.join()
     rows = [sqlite3.connect(path(it)).execute("select count(*) from rows").fetchone()[0] for it in ("alpha", "beta")]
-    want("the commits of the plain pair", rows, [16 * TRANSFERS, 15 * TRANSFERS])
+    want("the commits of the plain pair", rows, [ROWS[it] * TRANSFERS for it in ("origin", "recipient")])
     return TRANSFERS / seconds
 
 

@@ -9,6 +9,7 @@ import random
 import subprocess
 import sys
 
+from drill_model import generated
 from formats import CHAIN, NO_LINK, canonical, encoded, link, signed
 
 DRIVER, PROGRAM = sys.argv[1:]
@@ -181,33 +182,6 @@ def record(draw, byte):
     }[byte]()
 
 
-def schedule(seed):
-    """The lines of a seed's schedule."""
-    state = seed
-
-    def drawn():
-        nonlocal state
-        state = (state * 6364136223846793005 + 1442695040888963407) % 2**64
-        return state >> 33
-
-    side = lambda draw: "AB"[draw % 2]
-    lines = []
-    for i in range(1, 201):
-        amount, kind = drawn() % 100 + 1, drawn() % 4
-        number = (i + 1) // 2
-        if kind == 1:
-            lines.append(f"stop {side(drawn())} {drawn() % 60 + 1} {drawn() % 8}")
-        elif kind:
-            lines.append(f"{'lose' if kind == 2 else 'twice'} {drawn() % 11 + 1}")
-        sides = ("A", "ann", "bob", "alpha") if i % 2 else ("B", "bob", "ann", "beta")
-        lines.append(f"start {sides[0]} {number} gold {amount} {sides[1]} {sides[2]}")
-        if kind == 1 and drawn() % 2 == 0:
-            lines.append(f"abort {side(drawn())} {sides[3]}.{number}")
-        if i % 10 == 0:
-            lines.append(f"deliver {side(drawn())} {drawn() % (5 * i) + 1}")
-    return lines
-
-
 class Check:
     """Runs what is checked, and counts what differs."""
 
@@ -286,7 +260,7 @@ def check_records(check, draw):
 def check_schedules(check, draw):
     seeds = [0, 1, 2, 7, 8, 100, MOST_NUMBER] + [draw.between(1, MOST_NUMBER) for _ in range(4)]
     seeds = [seed for seed in seeds if seed]
-    check.drive("schedules", [f"{seed} {';'.join(schedule(seed))}" for seed in seeds], ["same"] * len(seeds))
+    check.drive("schedules", [f"{seed} {';'.join(generated(seed))}" for seed in seeds], ["same"] * len(seeds))
 
 
 def main():
